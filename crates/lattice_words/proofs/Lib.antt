@@ -1,0 +1,3 @@
+pub mod LadderBits
+pub mod Monotone
+pub mod WordBits
