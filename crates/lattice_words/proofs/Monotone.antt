@@ -1,8 +1,7 @@
 -- The ladders are monotone, and read no more than their own bits.
-use Rattle.std.proofs.Common.{◌≡◌, ℕ, ◌+◌, ◌-◌, ◌<◌, ◌≤◌, Bool, true, false, cond, ◌&&◌, ◌||◌, slice_index, Option, Some, None, refl, ap, sym, ◌∙◌, arith}
-use Rattle.std.specs.Int.{bit_at}
+use Rattle.std.proofs.Common.{◌≡◌, ℕ, ◌+◌, ◌-◌, ◌<◌, Bool, true, false, cond, slice_index, Option, Some, None, refl, arith}
 use Rattle.std.proofs.lemmas.Bool.{and_parts, and_from}
-use Rattle.lattice_words.specs.Words.{has_bit, IsWithin, word_of}
+use Rattle.lattice_words.specs.Words.{has_bit, IsWithin}
 use Rattle.lattice_words.specs.Ladders.{byte_rungs, is_byte_bit, lowest_byte_rung, has_byte_rung, shifted_bit, shift_of, kept_bit, keep_align_of}
 use Rattle.lattice_words.proofs.WordBits.{has_bit-within, word_of-within}
 use Rattle.lattice_words.proofs.LadderBits.{lowest-below}

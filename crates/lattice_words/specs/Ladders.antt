@@ -1,4 +1,4 @@
-use Rattle.std.specs.Prelude.{◌≡◌, ℕ, ◌+◌, ◌-◌, ◌%◌, ◌<◌, ◌≤◌, ◌↔◌, ◌⊎◌, Bool, false, not, ◌&&◌, ◌||◌, ◌==◌, nat_le, if◌then◌else◌, List, [], ◌∷◌, slice_index, Option, Some, None, position}
+use Rattle.std.specs.Prelude.{◌≡◌, ℕ, ◌+◌, ◌-◌, ◌%◌, ◌<◌, ◌≤◌, ◌↔◌, ◌⊎◌, Bool, true, false, not, ◌&&◌, ◌||◌, ◌==◌, nat_le, if◌then◌else◌, List, [], ◌∷◌, slice_index, Option, Some, None, position}
 use Rattle.std.specs.Int.{bit_at, ◌∣◌}
 use Rattle.lattice_words.specs.Words.{has_bit, word_of}
 use Rattle.lattice_words.specs.declared.value.TheConstants.{ALIGN_2, ALIGN_64, ALIGN_RUNGS, BYTES_1, BYTES_1024, BYTE_RUNGS}
@@ -44,6 +44,10 @@ kept_bit step w i = has_bit w i && (not (is_align_bit i) || (step % slice_index 
 -- the word after any number of such steps
 unfoldable pub keep_align_of : ℕ → ℕ → ℕ
 keep_align_of step w = word_of (kept_bit step w) 64
+
+-- two words have the same rungs of bytes
+abbrev pub SameRungs : ℕ → ℕ → Type 0
+SameRungs w v = (i : ℕ) → i < 64 → is_byte_bit i ≡ true → bit_at w i ≡ bit_at v i
 
 -- k is the lowest rung of at least n bytes, told by comparing
 pub record IsLowestByteRung (n k : ℕ) : Type 0 where

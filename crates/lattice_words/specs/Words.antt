@@ -5,6 +5,10 @@ use Rattle.std.specs.Int.{bit_at}
 abbrev pub has_bit : ℕ → ℕ → Bool
 has_bit w i = bit_at w i == 1
 
+-- a test as a bit
+abbrev pub bit_of : Bool → ℕ
+bit_of test = if test then 1 else 0
+
 -- each bit of the word a is a bit of the word b
 abbrev pub IsWithin : ℕ → ℕ → Type 0
 IsWithin a b = (i : ℕ) → i < 64 → bit_at a i ≤ bit_at b i

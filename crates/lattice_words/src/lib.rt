@@ -13,4 +13,7 @@ pub mod value;
 pub mod word;
 
 pub use ladders::{align_rung, byte_rung, keep_align, shift};
-pub use laws::{keep_align_is_monotone, keep_align_keeps_divisors, shift_is_monotone, shift_moves_rungs};
+pub use laws::{
+    keep_align_is_monotone, keep_align_keeps_divisors, keep_align_reads_the_same_bit,
+    shift_is_monotone, shift_moves_rungs, shift_reads_its_ladder,
+};
