@@ -1,0 +1,6 @@
+//! The terms.
+#![tactic(auto)]
+
+mod term;
+
+pub use term::{NewTerm, Term, TermId};
