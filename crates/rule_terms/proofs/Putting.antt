@@ -10,13 +10,13 @@ use Rattle.rule_terms.specs.declared.term.Term.{Term}
 use Rattle.rule_terms.specs.declared.term.Term.TheVariants as slot
 use Rattle.rule_terms.specs.declared.term.TermId.{TermId}
 use Rattle.rule_terms.specs.declared.term.NewTerm.{NewTerm}
-use Rattle.rule_terms.specs.declared.term.NewTerm.TheOpen.{NewTerm-F as new}
+use Rattle.rule_terms.specs.declared.term.NewTerm.TheOpen.{NewTerm-F, NewTerm-F as new}
 use Rattle.rule_terms.specs.declared.term.NewTerm.TheViews.{roll-NewTerm, the_lemmas}
-use Rattle.rule_terms.specs.declared.term.NewTerm.TheFolds.{fold-roll-NewTerm, fold_out-NewTerm}
+use Rattle.rule_terms.specs.declared.term.NewTerm.TheFolds.{fold-roll-NewTerm, fold_out-NewTerm, map-NewTerm}
 use Rattle.rule_terms.specs.Names.{names_of, layer_names, with_name, with_names, is_over, is_layer_over}
 use Rattle.rule_terms.specs.Slots.{Numbered, const, word, both, either, unless, shift, keep_align, spread, nth, slot_term, slot_terms, named, input_at, is_numbered, AreOrdered, IsBehind}
 use Rattle.rule_terms.specs.Pool.{IsPool, IsGrown, GoesOn, Has}
-use Rattle.rule_terms.proofs.Marked.{slice_get-push}
+use Rattle.rule_terms.proofs.Marked.{slice_get-push, slice_get-append_left}
 use Rattle.rule_terms.proofs.Slotted.{nth-grown, nth-pushed, is_numbered-more, named-grown}
 
 pub ruleset equations = (the_lemmas, fold-roll-NewTerm, fold_out-NewTerm)
@@ -56,6 +56,10 @@ has_stays a b t place has on =
       numbered = rw here (is_numbered-more (length a.inputs.items) (length b.inputs.items) more (nth (slot_terms a.slots.items) place) has.numbered);
       named = rw here (ap (λ l. named l (nth (slot_terms a.slots.items) place)) on.inputs.1 ∙ named-grown a.inputs.items on.inputs.0 (nth (slot_terms a.slots.items) place) has.numbered ∙ has.named);
     }
+
+-- an input keeps its number
+pub input_stays : (xs ys : List PosId) (k : ℕ) (p : PosId) → IsGrown xs ys → slice_get xs k ≡ Some p → slice_get ys k ≡ Some p
+input_stays xs ys k p (more, e) is = ap (λ l. slice_get l k) e ∙ slice_get-append_left xs more k (slice_get_within xs k p is) ∙ is
 
 -- b is the pool a with this slot at its end, which stands at the place
 pub record Pushes (a b : Pool) (slot : Term) (place : ℕ) : Type 0 where
@@ -111,6 +115,26 @@ module _ (a b : Pool) (place : ℕ) where
 pub two_names : (start first second all xs ys : List PosId) → first ≡ with_names start xs → second ≡ with_names first ys → all ≡ second → all ≡ with_names start (xs ++ ys)
 two_names start first second all xs ys e f g = g ∙ f ∙ ap (λ l. with_names l ys) e ∙ sym (fold-append with_name start xs ys)
 
+pub names_and : (left right t : NewTerm) → roll-NewTerm (new.And left right) ≡ t → names_of t ≡ names_of left ++ names_of right
+names_and left right t is = ap names_of (sym is) ∙ fold-roll-NewTerm (List PosId) layer_names (new.And left right)
+
+pub names_or : (left right t : NewTerm) → roll-NewTerm (new.Or left right) ≡ t → names_of t ≡ names_of left ++ names_of right
+names_or left right t is = ap names_of (sym is) ∙ fold-roll-NewTerm (List PosId) layer_names (new.Or left right)
+
 module _ (count : ℕ) where
+  -- what holds of a term holds of its layer
+  over_layer : (x : NewTerm-F NewTerm) (t : NewTerm) → roll-NewTerm x ≡ t → is_over count t ≡ true → is_layer_over count (map-NewTerm NewTerm Bool (is_over count) x) ≡ true
+  over_layer x t is over = sym (fold-roll-NewTerm Bool (is_layer_over count) x) ∙ ap (is_over count) is ∙ over
+
   pub over_and : (left right t : NewTerm) → roll-NewTerm (new.And left right) ≡ t → is_over count t ≡ true → (is_over count left ≡ true) × (is_over count right ≡ true)
-  over_and left right t is over = and_parts (is_over count left) (is_over count right) (sym (fold-roll-NewTerm Bool (is_layer_over count) (new.And left right)) ∙ ap (is_over count) is ∙ over)
+  over_and left right t is over = and_parts (is_over count left) (is_over count right) (over_layer (new.And left right) t is over)
+
+  pub over_or : (left right t : NewTerm) → roll-NewTerm (new.Or left right) ≡ t → is_over count t ≡ true → (is_over count left ≡ true) × (is_over count right ≡ true)
+  over_or left right t is over = and_parts (is_over count left) (is_over count right) (over_layer (new.Or left right) t is over)
+
+  pub over_unless : (p : PosId) (bit : ℕ) (of t : NewTerm) → roll-NewTerm (new.Unless p bit of) ≡ t → is_over count t ≡ true → bit < 64
+  over_unless p bit of t is over =
+      ltb-true bit 64 (and_parts (nat_lt p.0 count) (nat_lt bit 64) (and_parts (nat_lt p.0 count && nat_lt bit 64) (is_over count of) (over_layer (new.Unless p bit of) t is over)).0).1
+
+  pub over_spread : (bit to : ℕ) (of t : NewTerm) → roll-NewTerm (new.Spread bit to of) ≡ t → is_over count t ≡ true → bit < 64
+  over_spread bit to of t is over = ltb-true bit 64 (and_parts (nat_lt bit 64) (is_over count of) (over_layer (new.Spread bit to of) t is over)).0
