@@ -1,3 +1,4 @@
 pub mod Marked
 pub mod Putting
+pub mod Reading
 pub mod Slotted

@@ -7,7 +7,9 @@ use Rattle.std.proofs.Math.Seq.{get_or-append_seam}
 use Rattle.std.proofs.lemmas.List.Sums.{fold_push, fold-append}
 use Rattle.attr_ids.specs.declared.ids.PosId.{PosId}
 use Rattle.rule_terms.specs.declared.term.Term.{Term}
-use Rattle.rule_terms.specs.Slots.{Numbered, const, word, both, either, unless, shift, keep_align, spread, nth, slot_term, slot_terms, named, input_at, is_numbered}
+use Rattle.rule_terms.specs.declared.term.Term.TheVariants as slot
+use Rattle.std.proofs.lemmas.Option.{same_Some}
+use Rattle.rule_terms.specs.Slots.{Numbered, const, word, both, either, unless, shift, keep_align, spread, nth, slot_term, slot_terms, named, input_at, is_numbered, AreOrdered, IsBehind}
 use Rattle.rule_terms.specs.Pool.{IsGrown}
 
 abbrev with_slot : List Numbered → Term → List Numbered
@@ -89,3 +91,36 @@ named-grown inputs more (keep_align step of) is = rw (named-grown inputs more of
 named-grown inputs more (spread bit to of) is =
     let parts = and_parts (nat_lt bit 64) (is_numbered (length inputs) of) is in
     rw (named-grown inputs more of parts.1) refl
+
+-- a list around one of its elements
+split_at : {A : Type 0} (xs : List A) (k : ℕ) (x : A) → slice_get xs k ≡ Some x → (front : List A) × (back : List A) × (length front ≡ k) × (xs ≡ (front ++ x ∷ []) ++ back)
+split_at [] k x e = cc
+split_at (y ∷ ys) zero x e = ([], ys, refl, ap (λ z. z ∷ ys) (same_Some y x e))
+split_at (y ∷ ys) (suc k) x e = let rest = split_at ys k x e in (y ∷ rest.0, rest.1, ap suc rest.2, ap (λ l. y ∷ l) rest.3)
+
+-- a slot that stands behind its parts says the same over the slots before it as over all
+slot_term-grown : (slots more : List Term) (slot : Term) → IsBehind (length slots) slot → slot_term (slot_terms (slots ++ more)) slot ≡ slot_term (slot_terms slots) slot
+slot_term-grown slots more (slot.Const bits) behind = refl
+slot_term-grown slots more (slot.Word number) behind = refl
+slot_term-grown slots more (slot.And left right) behind = rw (nth-grown slots more left.0 behind.0, nth-grown slots more right.0 behind.1) refl
+slot_term-grown slots more (slot.Or left right) behind = rw (nth-grown slots more left.0 behind.0, nth-grown slots more right.0 behind.1) refl
+slot_term-grown slots more (slot.Unless input bit then') behind = rw (nth-grown slots more then'.0 behind) refl
+slot_term-grown slots more (slot.Shift bytes of) behind = rw (nth-grown slots more of.0 behind) refl
+slot_term-grown slots more (slot.KeepAlign step of) behind = rw (nth-grown slots more of.0 behind) refl
+slot_term-grown slots more (slot.Spread bit to of) behind = rw (nth-grown slots more of.0 behind) refl
+
+-- the term at a place is that of its slot
+pub nth-slot : (slots : List Term) (place : ℕ) (slot : Term) → AreOrdered slots → slice_get slots place ≡ Some slot → nth (slot_terms slots) place ≡ slot_term (slot_terms slots) slot
+nth-slot slots place slot ordered is =
+    let parts = split_at slots place slot is in
+    let front : List Term = parts.0 in
+    let back : List Term = parts.1 in
+    let whole : slots ≡ (front ++ slot ∷ []) ++ back = parts.3 in
+    let behind : IsBehind (length front) slot = rw parts.2 (ordered place slot is) in
+    let short : length front < length (front ++ slot ∷ []) = omega (arith, length-append front (slot ∷ [])) in
+    let first : nth (slot_terms ((front ++ slot ∷ []) ++ back)) (length front) ≡ slot_term (slot_terms ((front ++ slot ∷ []) ++ back)) slot =
+      nth-grown (front ++ slot ∷ []) back (length front) short
+      ∙ nth-pushed front slot
+      ∙ sym (slot_term-grown front (slot ∷ [] ++ back) slot behind)
+      ∙ ap (λ l. slot_term (slot_terms l) slot) (sym (append_assoc front (slot ∷ []) back)) in
+    subst (λ k. nth (slot_terms slots) k ≡ slot_term (slot_terms slots) slot) parts.2 (subst (λ l. nth (slot_terms l) (length front) ≡ slot_term (slot_terms l) slot) (sym whole) first)

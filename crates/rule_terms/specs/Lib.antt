@@ -1,5 +1,9 @@
 pub mod Greatest
+pub mod Inside
+pub mod Kept
+pub mod Looked
 pub mod Meaning
+pub mod Meeting
 pub mod Names
 pub mod Pool
 pub mod Slots

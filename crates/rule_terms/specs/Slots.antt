@@ -91,3 +91,8 @@ numbered_meaning look (unless input bit then') = if bit_at (look input) bit == 1
 numbered_meaning look (shift bytes of) = shift_of bytes (numbered_meaning look of)
 numbered_meaning look (keep_align step of) = keep_align_of step (numbered_meaning look of)
 numbered_meaning look (spread bit to of) = if bit_at (numbered_meaning look of) bit == 1 then to else 0
+
+-- the place is one of the slots, and its term is over so many inputs
+pub record IsReadable (slots : List Term) (count place : ℕ) : Type 0 where
+  pub within : place < length slots
+  pub numbered : is_numbered count (nth (slot_terms slots) place) ≡ true

@@ -2,7 +2,7 @@ use attr_ids::PosId;
 use sqlite_items::Boxed;
 
 /// A place in the list of terms of a system.
-#[derive(Clone, Copy, Debug, PartialEq, Eq)]
+#[derive(Clone, Copy, Debug, Default, PartialEq, Eq)]
 pub struct TermId(pub u64);
 
 /// A term as a system keeps it. It names an input by its number among the inputs of the position
