@@ -1,3 +1,4 @@
+pub mod Keeping
 pub mod Marked
 pub mod Putting
 pub mod Reading

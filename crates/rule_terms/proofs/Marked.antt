@@ -2,13 +2,14 @@
 use Rattle.std.proofs.Common.{◌≡◌, ◌≢◌, ℕ, zero, suc, ◌+◌, ◌<◌, ◌≤◌, ◌⊎◌, Bool, true, false, cond, eqb, ◌||◌, List, [], ◌∷◌, ◌++◌, length, length-set, map, get_or, set, slice_get, slice_index, Option, Some, None, refl, ap, sym, ◌∙◌, subst, inl, inr, arith, eqb-true, eq-eqb, get_or-set_same, get_or-set_other}
 use Rattle.std.specs.List.{list_any, IsDistinct}
 use Rattle.std.proofs.lemmas.List.{length-map}
-use Rattle.std.proofs.lemmas.Bool.{or_cases, both_ways, false_from_ne_true, cond-true, cond-false}
-use Rattle.std.proofs.lemmas.Option.{slice_get_within, slice_get_read, get_or_from_slice_get, same_Some}
+use Rattle.std.proofs.lemmas.Bool.{or_cases, cases_lt, both_ways, false_from_ne_true, cond-true, cond-false}
+use Rattle.std.proofs.lemmas.Option.{slice_get_within, slice_get_read, slice_get-get_or, get_or_from_slice_get, same_Some}
 use Rattle.std.proofs.lemmas.Map.Keys.{any_passes_from_place, IsDistinct-from_apart}
 use Rattle.std.proofs.lemmas.Map.Steps.{length-le_from_distinct_below}
 use Rattle.attr_ids.specs.declared.ids.PosId.{PosId}
 use Rattle.rule_terms.specs.Names.{has_name, with_name}
 use Rattle.rule_terms.specs.Pool.{IsMarked}
+use Rattle.rule_terms.specs.Pool.{AreApart}
 
 -- a position is its number
 pub same_position : (p q : PosId) → p.0 ≡ q.0 → p ≡ q
@@ -70,30 +71,57 @@ element_at [] k l = absurd (omega arith)
 element_at (x ∷ xs) zero l = (x, refl)
 element_at (x ∷ xs) (suc k) l = element_at xs k (omega arith)
 
--- two inputs with one position are one input
-pub same_number : (inputs : List PosId) (marks : List ℕ) → IsMarked inputs marks → (i j : ℕ) (p q : PosId) → slice_get inputs i ≡ Some p → slice_get inputs j ≡ Some q → p.0 ≡ q.0 → i ≡ j
-same_number inputs marks marked i j p q e f same = sym (marked i p e).1 ∙ ap (λ n. slice_index marks n) same ∙ (marked j q f).1
+-- marked inputs stand once each
+pub apart_from_marks : (inputs : List PosId) (marks : List ℕ) → IsMarked inputs marks → AreApart inputs (length marks)
+apart_from_marks inputs marks marked = record {
+  within = λ k p e. (marked k p e).0;
+  apart = λ i j p q e f same. sym (marked i p e).1 ∙ ap (λ n. slice_index marks n) same ∙ (marked j q f).1;
+}
 
--- marked inputs are no more than the positions
-pub length-le_marked : (inputs : List PosId) (marks : List ℕ) → IsMarked inputs marks → length inputs ≤ length marks
-length-le_marked inputs marks marked =
-    subst (λ n. n ≤ length marks) (length-map inputs (λ (q : PosId). q.0)) (length-le_from_distinct_below numbers (length marks) (IsDistinct-from_apart eqb numbers apart) below)
+-- inputs that stand once each are no more than the positions
+pub length-le_apart : (inputs : List PosId) (count : ℕ) → AreApart inputs count → length inputs ≤ count
+length-le_apart inputs count inputs_apart =
+    subst (λ n. n ≤ count) (length-map inputs (λ (q : PosId). q.0)) (length-le_from_distinct_below numbers count (IsDistinct-from_apart eqb numbers distinct) below)
   where
   numbers : List ℕ
   numbers = map (λ (q : PosId). q.0) inputs
-  apart : (i j : ℕ) (d : ℕ) → i < j → j < length numbers → eqb (get_or numbers i d) (get_or numbers j d) ≡ false
-  apart i j d l m = false_from_ne_true (eqb (get_or numbers i d) (get_or numbers j d)) (λ is.
+  distinct : (i j : ℕ) (d : ℕ) → i < j → j < length numbers → eqb (get_or numbers i d) (get_or numbers j d) ≡ false
+  distinct i j d l m = false_from_ne_true (eqb (get_or numbers i d) (get_or numbers j d)) (λ is.
       let long : length numbers ≡ length inputs = length-map inputs (λ (q : PosId). q.0) in
       let first = element_at inputs i (omega arith) in
       let second = element_at inputs j (omega arith) in
       let same : first.0.0 ≡ second.0.0 = sym (number_at inputs i first.0 d first.1) ∙ eqb-true (get_or numbers i d) (get_or numbers j d) is ∙ number_at inputs j second.0 d second.1 in
-      let one : i ≡ j = same_number inputs marks marked i j first.0 second.0 first.1 second.1 same in
+      let one : i ≡ j = inputs_apart.apart i j first.0 second.0 first.1 second.1 same in
       absurd (omega arith))
-  below : (q : ℕ) → list_any (eqb q) numbers ≡ true → q < length marks
+  below : (q : ℕ) → list_any (eqb q) numbers ≡ true → q < count
   below q is =
       let p : PosId = record { 0 = q } in
       let place = has_name-place inputs p (sym (any_number inputs p) ∙ is) in
-      (marked place.0 p place.1).0
+      inputs_apart.within place.0 p place.1
+
+pub length-le_marked : (inputs : List PosId) (marks : List ℕ) → IsMarked inputs marks → length inputs ≤ length marks
+length-le_marked inputs marks marked = length-le_apart inputs (length marks) (apart_from_marks inputs marks marked)
+
+-- one more input is marked
+pub mark_more : (inputs : List PosId) (marks : List ℕ) (number : ℕ) (d : PosId) → AreApart inputs (length marks) → number < length inputs →
+    ((k : ℕ) (p : PosId) → k < number → slice_get inputs k ≡ Some p → slice_index marks p.0 ≡ k) →
+    (k : ℕ) (p : PosId) → k < number + 1 → slice_get inputs k ≡ Some p → slice_index (set marks (get_or inputs number d).0 number) p.0 ≡ k
+mark_more inputs marks number d inputs_apart within before k p l e =
+    let here : slice_get inputs number ≡ Some (get_or inputs number d) = slice_get-get_or inputs number d within in
+    elim (cases_lt k number) [
+        inl below ↦
+          let other : p.0 ≢ (get_or inputs number d).0 = λ same. let one : k ≡ number = inputs_apart.apart k number p (get_or inputs number d) e here same in absurd (omega arith) in
+          get_or-set_other marks (get_or inputs number d).0 p.0 number 0 other ∙ before k p below e
+      | inr last ↦
+          let one : k ≡ number = omega arith in
+          let same : p ≡ get_or inputs number d = same_Some p (get_or inputs number d) (sym e ∙ ap (slice_get inputs) one ∙ here) in
+          ap (λ q. slice_index (set marks (get_or inputs number d).0 number) q.0) same
+          ∙ get_or-set_same marks (get_or inputs number d).0 number 0 (inputs_apart.within number (get_or inputs number d) here)
+          ∙ sym one ]
+
+-- what is marked of a list is marked of a list that goes on as it
+pub marked_front : (front back : List PosId) (marks : List ℕ) → IsMarked (front ++ back) marks → IsMarked front marks
+marked_front front back marks marked k p e = marked k p (slice_get-append_left front back k (slice_get_within front k p e) ∙ e)
 
 -- a position for which the test of its mark failed is no input
 pub not_input : (inputs xs : List PosId) (marks : List ℕ) (p : PosId) (mark : ℕ) (b : Bool) → IsMarked inputs marks → p.0 < length marks → mark ≡ get_or marks p.0 mark → xs ≡ inputs → (slice_get xs mark ≡ Some p → b ≡ true) → b ≡ false → has_name inputs p ≡ false

@@ -41,7 +41,7 @@ AreOrdered-push slots slot ordered behind k s e = elim (slice_get-push slots slo
     inl is ↦ ordered k s is
   | inr last ↦ rw (last.1, last.0) behind ]
 
-grown_length : {A : Type 0} (xs ys : List A) → IsGrown xs ys → length xs ≤ length ys
+pub grown_length : {A : Type 0} (xs ys : List A) → IsGrown xs ys → length xs ≤ length ys
 grown_length xs ys (more, e) = omega (arith, length-append xs more, ap length e)
 
 -- what a pool has it keeps as it goes on

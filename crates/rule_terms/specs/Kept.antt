@@ -9,7 +9,7 @@ use Rattle.rule_terms.specs.declared.term.TermId.{TermId}
 use Rattle.rule_terms.specs.declared.term.NewTerm.{NewTerm}
 use Rattle.rule_terms.specs.Names.{names_of, with_names, is_over}
 use Rattle.rule_terms.specs.Slots.{named, nth, slot_terms, IsReadable}
-use Rattle.rule_terms.specs.Pool.{IsMarked}
+use Rattle.rule_terms.specs.Pool.{IsMarked, AreApart}
 
 -- the term at a place of the slots
 abbrev pub term_at : List Term → List PosId → TermId → NewTerm
@@ -18,11 +18,6 @@ term_at slots inputs place = named inputs (nth (slot_terms slots) place.0)
 -- the terms that were met into the rule's position
 unfoldable pub met_terms : List Term → Rule → List NewTerm
 met_terms slots rule = map (term_at slots rule.inputs) rule.places.items
-
--- no position stands twice in the list, and each is one of so many
-pub record AreApart (inputs : List PosId) (count : ℕ) : Type 0 where
-  pub within : (k : ℕ) (p : PosId) → slice_get inputs k ≡ Some p → p.0 < count
-  pub apart : (i j : ℕ) (p q : PosId) → slice_get inputs i ≡ Some p → slice_get inputs j ≡ Some q → p.0 ≡ q.0 → i ≡ j
 
 -- what holds of the rule of a position, one of so many
 pub record IsRule (count : ℕ) (slots : List Term) (rule : Rule) : Type 0 where
@@ -37,3 +32,12 @@ AreRules count slots rules = (p : ℕ) (rule : Rule) → slice_get rules p ≡ S
 -- the inputs of this position are marked
 abbrev pub IsMarkedAt : List Rule → List ℕ → ℕ → Type 0
 IsMarkedAt rules marks p = (rule : Rule) → slice_get rules p ≡ Some rule → IsMarked rule.inputs marks
+
+abbrev pub AreApartAt : List Rule → ℕ → ℕ → Type 0
+AreApartAt rules count p = (rule : Rule) → slice_get rules p ≡ Some rule → AreApart rule.inputs count
+
+-- so many rules, none with an input or a term
+pub record AreEmptyRules (count : ℕ) (rules : List Rule) : Type 0 where
+  pub long : length rules ≡ count
+  pub inputs : All (λ rule. rule.inputs ≡ []) rules
+  pub places : All (λ rule. rule.places.items ≡ []) rules

@@ -10,6 +10,11 @@ use Rattle.rule_terms.specs.Slots.{AreOrdered, named, nth, is_numbered, slot_ter
 abbrev pub IsMarked : List PosId → List ℕ → Type 0
 IsMarked inputs marks = (number : ℕ) (p : PosId) → slice_get inputs number ≡ Some p → (p.0 < length marks) × (slice_index marks p.0 ≡ number)
 
+-- no position stands twice in the list, and each is one of so many
+pub record AreApart (inputs : List PosId) (count : ℕ) : Type 0 where
+  pub within : (k : ℕ) (p : PosId) → slice_get inputs k ≡ Some p → p.0 < count
+  pub apart : (i j : ℕ) (p q : PosId) → slice_get inputs i ≡ Some p → slice_get inputs j ≡ Some q → p.0 ≡ q.0 → i ≡ j
+
 pub record IsPool (pool : Pool) : Type 0 where
   pub fits : length pool.marks.items < 2 ^ 32
   pub marked : IsMarked pool.inputs.items pool.marks.items
@@ -31,3 +36,9 @@ pub record Has (pool : Pool) (term : NewTerm) (place : ℕ) : Type 0 where
   pub within : place < length pool.slots.items
   pub numbered : is_numbered (length pool.inputs.items) (nth (slot_terms pool.slots.items) place) ≡ true
   pub named : named pool.inputs.items (nth (slot_terms pool.slots.items) place) ≡ term
+
+-- only the marks differ
+pub record IsRemarked (old new : Pool) : Type 0 where
+  pub slots : new.slots.items ≡ old.slots.items
+  pub inputs : new.inputs.items ≡ old.inputs.items
+  pub size : length new.marks.items ≡ length old.marks.items

@@ -1,5 +1,5 @@
 -- What a system is: a mask for each position, and the terms that were met into it.
-use Rattle.std.specs.Prelude.{◌≡◌, ℕ, ◌^◌, ◌<◌, ◌==◌, if◌then◌else◌, Bool, true, IsTrue, List, [], ◌∷◌, ◌++◌, length, map, slice_index, slice_index_or, slice_set, All}
+use Rattle.std.specs.Prelude.{◌≡◌, ℕ, ◌^◌, ◌<◌, ◌==◌, if◌then◌else◌, Bool, true, IsTrue, List, [], ◌∷◌, ◌++◌, length, map, slice_index, slice_index_or, slice_set, All, replicate}
 use Rattle.std.specs.List.{flat_map, list_all}
 use Rattle.attr_ids.specs.declared.ids.PosId.{PosId}
 use Rattle.rule_terms.specs.declared.term.NewTerm.{NewTerm}
@@ -9,6 +9,10 @@ use Rattle.rule_terms.specs.Names.{names_of, with_names, is_over}
 pub record System : Type 0 where
   pub masks : List ℕ
   pub terms : List (List NewTerm)
+
+-- the system of these masks, with no term met in
+abbrev pub with_masks : List ℕ → System
+with_masks masks = record { masks = masks; terms = replicate (length masks) [] }
 
 -- the terms that were met into the position's mask
 abbrev pub terms_at : System → ℕ → List NewTerm

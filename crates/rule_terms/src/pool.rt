@@ -1,6 +1,6 @@
 ghost use Rattle.std.specs.Prelude.{◌≡◌, ◌+◌, ◌^◌, ◌<◌, [], ◌∷◌, ◌++◌, length, IsTrue, IfOk, OnOk, slice_get, ◌↔◌, Some};
 ghost use Rattle.rule_terms.specs.Names.{is_over, names_of, with_name, with_names};
-ghost use Rattle.rule_terms.specs.Pool.{IsPool, GoesOn, Has};
+ghost use Rattle.rule_terms.specs.Pool.{IsMarked, IsPool, IsRemarked, AreApart, GoesOn, Has};
 ghost use Rattle.rule_terms.specs.Slots.{IsBehind};
 
 use crate::term::{NewTerm, Term, TermId};
@@ -24,6 +24,18 @@ fn is_input(inputs: &[PosId], number: u32, p: PosId) -> bool
 }
 
 impl Pool {
+    /// Marks each input with its number.
+    pub(crate) fn mark(&mut self, inputs: &[PosId])
+        requires apart { AreApart inputs.now (length self.old.marks.items) }
+        requires fits { length self.old.marks.items < 2 ^ 32 }
+        ensures pool { IsRemarked self.old self.new }
+        ensures marked { IsMarked inputs.now self.new.marks.items }
+    {
+        for (number, p) in inputs.iter().enumerate() {
+            self.marks[p.0 as usize] = number as u32;
+        }
+    }
+
     fn number_of(&mut self, p: PosId) -> Result<u32, NoMemory>
         requires pool { IsPool self.old }
         requires place { p.0 < length self.old.marks.items }

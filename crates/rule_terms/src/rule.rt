@@ -1,6 +1,6 @@
 ghost use Rattle.std.specs.Prelude.{◌≡◌, ◌^◌, ◌<◌, ℕ, [], ◌∷◌, ◌++◌, length, fold, bit_and, map, slice_get, Some, IsTrue, OnOk, OnErr, IfOk};
-ghost use Rattle.rule_terms.specs.Kept.{AreApart};
-ghost use Rattle.rule_terms.specs.Pool.{IsMarked, IsPool, GoesOn, Has};
+ghost use Rattle.rule_terms.specs.Kept.{AreApartAt, IsMarkedAt};
+ghost use Rattle.rule_terms.specs.Pool.{IsMarked, IsPool, IsRemarked, GoesOn};
 ghost use Rattle.rule_terms.specs.Names.{is_over, names_of, with_names};
 ghost use Rattle.rule_terms.specs.Slots.{AreOrdered, IsReadable, nth, numbered_meaning, slot_terms};
 ghost use Rattle.rule_terms.specs.Looked.{input_word, input_count, HasWords};
@@ -22,14 +22,19 @@ pub(crate) struct Rule {
     pub(crate) places: SmallVec<TermId, 2>,
 }
 
-/// Marks each input with its number.
-pub(crate) fn mark(inputs: &[PosId], marks: &mut [u32])
-    requires apart { AreApart inputs.now (length marks.old) }
-    requires fits { length marks.old < 2 ^ 32 }
-    ensures { IsMarked inputs.now marks.new }
+/// Marks the inputs of the position p, unless they are marked.
+pub(crate) fn open(rules: &[Rule], pool: &mut Pool, marked: &mut u32, p: PosId)
+    requires place { p.0 < length rules.now }
+    requires fits { length pool.old.marks.items < 2 ^ 32 }
+    requires apart { AreApartAt rules.now (length pool.old.marks.items) p.0 }
+    requires marked { IsMarkedAt rules.now pool.old.marks.items marked.old }
+    ensures open { marked.new ≡ p.0 }
+    ensures pool { IsRemarked pool.old pool.new }
+    ensures marked { IsMarkedAt rules.now pool.new.marks.items p.0 }
 {
-    for (number, p) in inputs.iter().enumerate() {
-        marks[p.0 as usize] = number as u32;
+    if *marked != p.0 {
+        pool.mark(rules[p.0 as usize].inputs.as_slice());
+        *marked = p.0;
     }
 }
 

@@ -8,6 +8,7 @@ use lattice_words::{keep_align, shift};
 
 /// Where the words of a position's inputs come from: one word for each input, or the words of all
 /// positions.
+#[derive(Clone, Copy)]
 pub(crate) enum Looked<'a> {
     Each(&'a [u64]),
     Through { inputs: &'a [PosId], words: &'a [u64] },

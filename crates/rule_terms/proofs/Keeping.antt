@@ -1,0 +1,153 @@
+-- What a system keeps, and what it shows, as terms are met in.
+use Rattle.std.proofs.Common.{◌≡◌, ◌≢◌, ◌⊎◌, Bool, false, cond, ℕ, zero, suc, ◌+◌, ◌<◌, true, List, [], ◌∷◌, ◌++◌, length, length-set, map, get_or, set, slice_get, Option, Some, refl, ap, sym, ◌∙◌, subst, arith, All, inl, inr, get_or-set_same, get_or-set_other, length-append, append-nil}
+use Rattle.std.specs.List.{flat_map, fold}
+use Rattle.std.proofs.lemmas.Bool.{cases_eq}
+use Rattle.std.proofs.lemmas.List.{length-map, map-append, map-set}
+use Rattle.std.proofs.lemmas.List.Concat.{flat_map-append}
+use Rattle.std.proofs.lemmas.List.Sums.{fold-append}
+use Rattle.std.proofs.lemmas.List.Elements.{All-map, All-push}
+use Rattle.std.proofs.lemmas.Option.{slice_get-get_or, slice_get_within, same_Some}
+use Rattle.attr_ids.specs.declared.ids.PosId.{PosId}
+use Rattle.rule_terms.specs.declared.pool.Pool.{Pool}
+use Rattle.rule_terms.specs.declared.rule.Rule.{Rule}
+use Rattle.rule_terms.specs.declared.system.System.TheInside.{Inside}
+use Rattle.rule_terms.specs.declared.term.NewTerm.{NewTerm}
+use Rattle.rule_terms.specs.declared.term.Term.{Term}
+use Rattle.rule_terms.specs.declared.term.TermId.{TermId}
+use Rattle.rule_terms.specs.Names.{is_over, names_of, has_name, with_name, with_names}
+use Rattle.rule_terms.specs.Slots.{IsReadable, nth, slot_terms, named}
+use Rattle.rule_terms.specs.Pool.{IsGrown, AreApart, IsMarked}
+use Rattle.rule_terms.specs.Kept.{met_terms, term_at, IsRule, AreRules}
+use Rattle.rule_terms.specs.Meeting.{Met, NotMet}
+use Rattle.rule_terms.specs.Inside.{shown, IsKept}
+use Rattle.rule_terms.specs.System.{System, IsSystem, with_term}
+use Rattle.rule_terms.proofs.Marked.{slice_get-push, apart_from_marks}
+use Rattle.rule_terms.proofs.Slotted.{nth-grown, is_numbered-more, named-grown}
+use Rattle.rule_terms.proofs.Putting.{grown_length, grown_trans}
+
+pub kept_system : (a : Inside) → IsKept a → IsSystem (shown a)
+kept_system a kept = record {
+  fits = kept.fits;
+  long = length-map a.rules.items (met_terms a.pool.slots.items) ∙ kept.long;
+  facts = kept.facts;
+  over = All-map (λ terms. All (λ term. is_over (length a.masks) term ≡ true) terms) (met_terms a.pool.slots.items) a.rules.items
+    (λ k d l. (kept.rules k (get_or a.rules.items k d) (slice_get-get_or a.rules.items k d l)).over);
+}
+
+-- two functions that agree on a list's elements give the same list
+map_agree : {A B : Type 0} (f g : A → B) (xs : List A) → ((k : ℕ) (x : A) → slice_get xs k ≡ Some x → f x ≡ g x) → map f xs ≡ map g xs
+map_agree f g [] same = refl
+map_agree f g (x ∷ xs) same = rw (same zero x refl, map_agree f g xs (λ k y e. same (suc k) y e)) refl
+
+-- what a list has at a place after a write
+slice_get-set : {A : Type 0} (xs : List A) (i : ℕ) (y : A) (k : ℕ) (x : A) → slice_get (set xs i y) k ≡ Some x → ((k ≡ i) × (x ≡ y)) ⊎ ((k ≢ i) × (slice_get xs k ≡ Some x))
+slice_get-set [] i y k x e = cc
+slice_get-set (z ∷ zs) zero y zero x e = inl (refl, sym (same_Some y x e))
+slice_get-set (z ∷ zs) zero y (suc k) x e = inr (omega arith, e)
+slice_get-set (z ∷ zs) (suc i) y zero x e = inr (omega arith, e)
+slice_get-set (z ∷ zs) (suc i) y (suc k) x e = elim (slice_get-set zs i y k x e) [
+    inl here ↦ inl (ap suc here.0, here.1)
+  | inr there ↦ inr (omega (arith, there.0), there.1) ]
+
+module _ (slots more : List Term) (grown : IsGrown slots more) where
+  same_slot : (place : ℕ) → place < length slots → nth (slot_terms more) place ≡ nth (slot_terms slots) place
+  same_slot place l = ap (λ s. nth (slot_terms s) place) grown.1 ∙ nth-grown slots grown.0 place l
+
+  readable_stays : (inputs wider : List PosId) → IsGrown inputs wider → (place : ℕ) → IsReadable slots (length inputs) place → IsReadable more (length wider) place
+  readable_stays inputs wider widened place is = record {
+    within = omega (arith, is.within, grown_length slots more grown);
+    numbered = rw (same_slot place is.within) (is_numbered-more (length inputs) (length wider) (grown_length inputs wider widened) (nth (slot_terms slots) place) is.numbered);
+  }
+
+  term_stays : (inputs wider : List PosId) → IsGrown inputs wider → (place : TermId) → IsReadable slots (length inputs) place.0 → term_at more wider place ≡ term_at slots inputs place
+  term_stays inputs wider widened place is =
+      ap (named wider) (same_slot place.0 is.within)
+      ∙ ap (λ l. named l (nth (slot_terms slots) place.0)) widened.1
+      ∙ named-grown inputs widened.0 (nth (slot_terms slots) place.0) is.numbered
+
+  -- the terms at places that stay
+  terms_stay : (count : ℕ) (rule : Rule) → IsRule count slots rule → (wider : List PosId) → IsGrown rule.inputs wider → map (term_at more wider) rule.places.items ≡ map (term_at slots rule.inputs) rule.places.items
+  terms_stay count rule is wider widened = map_agree (term_at more wider) (term_at slots rule.inputs) rule.places.items (λ k place e. term_stays rule.inputs wider widened place (is.places k place e))
+
+-- names are only added behind
+with_name-grown : (names : List PosId) (p : PosId) → IsGrown names (with_name names p)
+with_name-grown names p = by_case (has_name names p) where
+  by_case : (b : Bool) → IsGrown names (cond b names (names ++ p ∷ []))
+  by_case true = ([], sym (append-nil names))
+  by_case false = (p ∷ [], refl)
+
+with_names-grown : (names more : List PosId) → IsGrown names (with_names names more)
+with_names-grown names [] = ([], sym (append-nil names))
+with_names-grown names (p ∷ ps) = grown_trans names (with_name names p) (with_names (with_name names p) ps) (with_name-grown names p) (with_names-grown (with_name names p) ps)
+
+-- the inputs that one more term adds
+more_inputs : (inputs wider : List PosId) (terms : List NewTerm) (term : NewTerm) → inputs ≡ with_names [] (flat_map names_of terms) → wider ≡ with_names inputs (names_of term) →
+    wider ≡ with_names [] (flat_map names_of (terms ++ term ∷ []))
+more_inputs inputs wider terms term is e =
+    e ∙ ap (λ l. with_names l (names_of term)) is
+    ∙ sym (fold-append with_name [] (flat_map names_of terms) (names_of term))
+    ∙ ap (λ l. with_names [] (flat_map names_of terms ++ l)) (sym (append-nil (names_of term)))
+    ∙ ap (with_names []) (sym (flat_map-append names_of terms (term ∷ [])))
+
+module _ (count : ℕ) (slots more : List Term) (grown : IsGrown slots more) where
+  -- a rule shows the same terms where more slots follow
+  met_terms-stay : (rule : Rule) → IsRule count slots rule → met_terms more rule ≡ met_terms slots rule
+  unfolding met_terms
+  met_terms-stay rule is = terms_stay slots more grown count rule is rule.inputs ([], sym (append-nil rule.inputs))
+
+  rule_stays : (rule : Rule) → IsRule count slots rule → IsRule count more rule
+  rule_stays rule is =
+      let same = met_terms-stay rule is in
+      record {
+        places = λ k place e. readable_stays slots more grown rule.inputs rule.inputs ([], sym (append-nil rule.inputs)) place.0 (is.places k place e);
+        inputs = is.inputs ∙ ap (λ terms. with_names [] (flat_map names_of terms)) (sym same);
+        apart = is.apart;
+        over = rw same is.over;
+      }
+
+  -- a rule that no term was met into shows the same terms
+  pub not_met : (old new : Rule) → NotMet old new → IsRule count slots old → (met_terms more new ≡ met_terms slots old) × IsRule count more new
+  unfolding met_terms
+  not_met old new unmet is =
+      let stays = rule_stays old is in
+      let same : met_terms more new ≡ met_terms more old = rw (unmet.inputs, unmet.places) refl in
+      (same ∙ met_terms-stay old is,
+       record {
+         places = λ k place e. rw unmet.inputs (stays.places k place (rw unmet.places at e));
+         inputs = unmet.inputs ∙ stays.inputs ∙ ap (λ terms. with_names [] (flat_map names_of terms)) (sym same);
+         apart = rw unmet.inputs stays.apart;
+         over = rw same stays.over;
+       })
+
+  -- a rule that a term was met into shows it behind the others
+  pub met_one : (old new : Rule) (term : NewTerm) → Met more old new term → IsRule count slots old → AreApart new.inputs count → is_over count term ≡ true →
+      (met_terms more new ≡ met_terms slots old ++ term ∷ []) × IsRule count more new
+  unfolding met_terms
+  met_one old new term met is new_apart over =
+      let widened : IsGrown old.inputs new.inputs = subst (IsGrown old.inputs) (sym met.names) (with_names-grown old.inputs (names_of term)) in
+      let same : met_terms more new ≡ met_terms slots old ++ term ∷ [] =
+        ap (map (term_at more new.inputs)) met.pushed
+        ∙ map-append (term_at more new.inputs) old.places.items (met.place ∷ [])
+        ∙ ap (λ l. l ++ term_at more new.inputs met.place ∷ []) (terms_stay slots more grown count old is new.inputs widened)
+        ∙ ap (λ t. met_terms slots old ++ t ∷ []) met.is in
+      (same, record {
+        places = λ k place e. elim (slice_get-push old.places.items met.place k place (rw met.pushed at e)) [
+            inl there ↦ readable_stays slots more grown old.inputs new.inputs widened place.0 (is.places k place there)
+          | inr last ↦ rw last.1 met.readable ];
+        inputs = more_inputs old.inputs new.inputs (met_terms slots old) term is.inputs met.names ∙ ap (λ terms. with_names [] (flat_map names_of terms)) (sym same);
+        apart = new_apart;
+        over = rw same (All-push (λ t. is_over count t ≡ true) (met_terms slots old) term is.over over);
+      })
+
+  -- all rules after one of them was written
+  module _ (rules : List Rule) (are : AreRules count slots rules) (p : ℕ) (new : Rule) where
+    pub rules_after : IsRule count more new → AreRules count more (set rules p new)
+    rules_after is k rule e = elim (slice_get-set rules p new k rule e) [
+        inl here ↦ rw here.1 is
+      | inr there ↦ rule_stays rule (are k rule there.1) ]
+
+    pub shown_after : (terms : List NewTerm) → met_terms more new ≡ terms → map (met_terms more) (set rules p new) ≡ set (map (met_terms slots) rules) p terms
+    shown_after terms is =
+        map-set (met_terms more) rules p new
+        ∙ ap (λ l. set l p (met_terms more new)) (map_agree (met_terms more) (met_terms slots) rules (λ k rule e. met_terms-stay rule (are k rule e)))
+        ∙ ap (set (map (met_terms slots) rules) p) is
