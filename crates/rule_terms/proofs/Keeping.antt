@@ -1,12 +1,12 @@
 -- What a system keeps, and what it shows, as terms are met in.
-use Rattle.std.proofs.Common.{◌≡◌, ◌≢◌, ◌⊎◌, Bool, false, cond, ℕ, zero, suc, ◌+◌, ◌<◌, true, List, [], ◌∷◌, ◌++◌, length, length-set, map, get_or, set, slice_get, Option, Some, refl, ap, sym, ◌∙◌, subst, arith, All, inl, inr, get_or-set_same, get_or-set_other, length-append, append-nil}
+use Rattle.std.proofs.Common.{◌≡◌, ◌≢◌, ◌⊎◌, Bool, false, cond, ℕ, zero, suc, ◌+◌, ◌<◌, true, List, [], ◌∷◌, ◌++◌, length, length-set, map, get_or, set, slice_get, Option, Some, Result, Ok, Err, OnOk, OnErr, option_map, refl, ap, sym, ◌∙◌, subst, arith, All, inl, inr, get_or-set_same, get_or-set_other, length-append, append-nil}
 use Rattle.std.specs.List.{flat_map, fold}
 use Rattle.std.proofs.lemmas.Bool.{cases_eq}
 use Rattle.std.proofs.lemmas.List.{length-map, map-append, map-set}
 use Rattle.std.proofs.lemmas.List.Concat.{flat_map-append}
 use Rattle.std.proofs.lemmas.List.Sums.{fold-append}
 use Rattle.std.proofs.lemmas.List.Elements.{All-map, All-push}
-use Rattle.std.proofs.lemmas.Option.{slice_get-get_or, slice_get_within, same_Some}
+use Rattle.std.proofs.lemmas.Option.{slice_get-get_or, slice_get_read, slice_get-map, get_or_from_slice_get, same_Some}
 use Rattle.attr_ids.specs.declared.ids.PosId.{PosId}
 use Rattle.rule_terms.specs.declared.pool.Pool.{Pool}
 use Rattle.rule_terms.specs.declared.rule.Rule.{Rule}
@@ -15,12 +15,12 @@ use Rattle.rule_terms.specs.declared.term.NewTerm.{NewTerm}
 use Rattle.rule_terms.specs.declared.term.Term.{Term}
 use Rattle.rule_terms.specs.declared.term.TermId.{TermId}
 use Rattle.rule_terms.specs.Names.{is_over, names_of, has_name, with_name, with_names}
-use Rattle.rule_terms.specs.Slots.{IsReadable, nth, slot_terms, named}
+use Rattle.rule_terms.specs.Slots.{IsReadable, AreOrdered, nth, slot_terms, named}
 use Rattle.rule_terms.specs.Pool.{IsGrown, AreApart, IsMarked}
 use Rattle.rule_terms.specs.Kept.{met_terms, term_at, IsRule, AreRules}
 use Rattle.rule_terms.specs.Meeting.{Met, NotMet}
 use Rattle.rule_terms.specs.Inside.{shown, IsKept}
-use Rattle.rule_terms.specs.System.{System, IsSystem, with_term}
+use Rattle.rule_terms.specs.System.{System, IsSystem, terms_at, with_term}
 use Rattle.rule_terms.proofs.Marked.{slice_get-push, apart_from_marks}
 use Rattle.rule_terms.proofs.Slotted.{nth-grown, is_numbered-more, named-grown}
 use Rattle.rule_terms.proofs.Putting.{grown_length, grown_trans}
@@ -151,3 +151,78 @@ module _ (count : ℕ) (slots more : List Term) (grown : IsGrown slots more) whe
         map-set (met_terms more) rules p new
         ∙ ap (λ l. set l p (met_terms more new)) (map_agree (met_terms more) (met_terms slots) rules (λ k rule e. met_terms-stay rule (are k rule e)))
         ∙ ap (set (map (met_terms slots) rules) p) is
+
+set_same : {A : Type 0} (xs : List A) (p : ℕ) (x : A) → slice_get xs p ≡ Some x → set xs p x ≡ xs
+set_same [] p x e = refl
+set_same (y ∷ ys) zero x e = ap (λ z. z ∷ ys) (sym (same_Some y x e))
+set_same (y ∷ ys) (suc p) x e = ap (λ l. y ∷ l) (set_same ys p x e)
+
+found_terms : (a : Inside) (p : ℕ) (rule : Rule) → slice_get a.rules.items p ≡ Some rule → slice_get (map (met_terms a.pool.slots.items) a.rules.items) p ≡ Some (met_terms a.pool.slots.items rule)
+found_terms a p rule e = slice_get-map (met_terms a.pool.slots.items) a.rules.items p ∙ ap (option_map (met_terms a.pool.slots.items)) e
+
+same_shown : (b : Inside) (s : System) → b.masks ≡ s.masks → map (met_terms b.pool.slots.items) b.rules.items ≡ s.terms → shown b ≡ s
+same_shown b s e f = rw (e, f) refl
+
+-- the system b is the system a after the rule of the position p was written
+pub record IsStep (a b : Inside) (p : ℕ) (old new : Rule) : Type 0 where
+  pub masks : b.masks ≡ a.masks
+  pub rules : b.rules.items ≡ set a.rules.items p new
+  pub found : slice_get a.rules.items p ≡ Some old
+  pub grown : IsGrown a.pool.slots.items b.pool.slots.items
+  pub ordered : AreOrdered b.pool.slots.items
+  pub size : length b.pool.marks.items ≡ length a.pool.marks.items
+  pub closed : b.pool.inputs.items ≡ []
+  pub marked : IsMarked new.inputs b.pool.marks.items
+  pub place : b.marked ≡ p
+
+module _ (a b : Inside) (kept : IsKept a) (p : ℕ) (old new : Rule) (step : IsStep a b p old new) where
+  pub step_kept : IsRule (length a.masks) b.pool.slots.items new → IsKept b
+  step_kept is = record {
+    fits = rw step.masks kept.fits;
+    facts = rw step.masks kept.facts;
+    long = rw (step.masks, step.rules, length-set) kept.long;
+    marks = rw step.masks (step.size ∙ kept.marks);
+    closed = step.closed;
+    ordered = step.ordered;
+    rules = rw (step.masks, step.rules) (rules_after (length a.masks) a.pool.slots.items b.pool.slots.items step.grown a.rules.items kept.rules p new is);
+    marked = rw (step.rules, step.place) at_place;
+  } where
+    at_place : (rule : Rule) → slice_get (set a.rules.items p new) p ≡ Some rule → IsMarked rule.inputs b.pool.marks.items
+    at_place rule e = elim (slice_get-set a.rules.items p new p rule e) [
+        inl here ↦ rw here.1 step.marked
+      | inr there ↦ absurd (there.0 refl) ]
+
+  pub step_unmet : NotMet old new → IsRule (length a.masks) b.pool.slots.items new × (shown b ≡ shown a)
+  step_unmet unmet =
+      let both = not_met (length a.masks) a.pool.slots.items b.pool.slots.items step.grown old new unmet (kept.rules p old step.found) in
+      let terms = shown_after (length a.masks) a.pool.slots.items b.pool.slots.items step.grown a.rules.items kept.rules p new (met_terms a.pool.slots.items old) both.0 in
+      let same : set (map (met_terms a.pool.slots.items) a.rules.items) p (met_terms a.pool.slots.items old) ≡ map (met_terms a.pool.slots.items) a.rules.items =
+        set_same (map (met_terms a.pool.slots.items) a.rules.items) p (met_terms a.pool.slots.items old) (found_terms a p old step.found) in
+      (both.1, same_shown b (shown a) step.masks (ap (map (met_terms b.pool.slots.items)) step.rules ∙ terms ∙ same))
+
+  pub step_met : (term : NewTerm) → Met b.pool.slots.items old new term → is_over (length a.masks) term ≡ true → IsRule (length a.masks) b.pool.slots.items new × (shown b ≡ with_term (shown a) p term)
+  step_met term met over =
+      let new_apart : AreApart new.inputs (length a.masks) = subst (AreApart new.inputs) (step.size ∙ kept.marks) (apart_from_marks new.inputs b.pool.marks.items step.marked) in
+      let both = met_one (length a.masks) a.pool.slots.items b.pool.slots.items step.grown old new term met (kept.rules p old step.found) new_apart over in
+      let before : terms_at (shown a) p ≡ met_terms a.pool.slots.items old = get_or_from_slice_get (map (met_terms a.pool.slots.items) a.rules.items) p (met_terms a.pool.slots.items old) [] (found_terms a p old step.found) in
+      let terms = shown_after (length a.masks) a.pool.slots.items b.pool.slots.items step.grown a.rules.items kept.rules p new (terms_at (shown a) p ++ term ∷ []) (both.0 ∙ ap (λ l. l ++ term ∷ []) (sym before)) in
+      (both.1, same_shown b (with_term (shown a) p term) step.masks (ap (map (met_terms b.pool.slots.items)) step.rules ∙ terms))
+
+-- what a call that may have failed tells
+pub told : {E : Type 0} {P Q : Type 0} (r : Result (Unit {0}) E) → OnOk r P → OnErr r Q → P ⊎ Q
+told (Ok _) p q = inl p
+told (Err _) p q = inr q
+
+pub on_ok : {E : Type 0} {P Q : Type 0} (r : Result (Unit {0}) E) → (P → Q) → OnOk r P → OnOk r Q
+on_ok (Ok _) f p = f p
+on_ok (Err _) f p = p
+
+pub on_err : {E : Type 0} {P Q : Type 0} (r : Result (Unit {0}) E) → (P → Q) → OnErr r P → OnErr r Q
+on_err (Ok _) f p = p
+on_err (Err _) f p = f p
+
+-- the rule that is read is that of the position
+pub found_rule : (a : Inside) (s : System) (p : ℕ) (rule : Rule) → IsKept a → shown a ≡ s → p < length s.masks → rule ≡ get_or a.rules.items p rule → slice_get a.rules.items p ≡ Some rule
+found_rule a s p rule kept same within read =
+    let masks : length a.masks ≡ length s.masks = ap (λ (x : System). length x.masks) same in
+    slice_get_read a.rules.items (length a.rules.items) p rule refl (omega (arith, kept.long)) read

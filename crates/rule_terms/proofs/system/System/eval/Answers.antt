@@ -1,0 +1,1 @@
+use Rattle.rule_terms.proofs.system.System.eval.Goals as goal

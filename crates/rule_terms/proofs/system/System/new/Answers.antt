@@ -1,0 +1,5 @@
+use Rattle.rule_terms.proofs.system.System.new.Goals as goal
+pub invariant_of-result : goal.invariant_of-result
+invariant_of-result c = ?
+pub returns : goal.returns
+returns c = ?
