@@ -1,12 +1,12 @@
 -- What a system keeps, and what it shows, as terms are met in.
-use Rattle.std.proofs.Common.{◌≡◌, ◌≢◌, ◌⊎◌, Bool, false, cond, ℕ, zero, suc, ◌+◌, ◌<◌, true, List, [], ◌∷◌, ◌++◌, length, length-set, map, get_or, set, slice_get, Option, Some, Result, Ok, Err, OnOk, OnErr, option_map, refl, ap, sym, ◌∙◌, subst, arith, All, inl, inr, get_or-set_same, get_or-set_other, length-append, append-nil}
+use Rattle.std.proofs.Common.{◌≡◌, ◌≢◌, ◌⊎◌, Bool, false, cond, ℕ, zero, suc, ◌+◌, ◌<◌, true, List, [], ◌∷◌, ◌++◌, length, length-set, map, get_or, set, slice_get, Option, Some, Result, Ok, Err, OnOk, OnErr, option_map, refl, ap, sym, ◌∙◌, subst, arith, All, inl, inr, get_or-set_same, get_or-set_other, length-append, append-nil, replicate, ◌^◌}
 use Rattle.std.specs.List.{flat_map, fold}
 use Rattle.std.proofs.lemmas.Bool.{cases_eq}
 use Rattle.std.proofs.lemmas.List.{length-map, map-append, map-set}
 use Rattle.std.proofs.lemmas.List.Concat.{flat_map-append}
 use Rattle.std.proofs.lemmas.List.Sums.{fold-append}
-use Rattle.std.proofs.lemmas.List.Elements.{All-map, All-push}
-use Rattle.std.proofs.lemmas.Option.{slice_get-get_or, slice_get_read, slice_get-map, get_or_from_slice_get, same_Some}
+use Rattle.std.proofs.lemmas.List.Elements.{All-map, All-nil, All-push}
+use Rattle.std.proofs.lemmas.Option.{slice_get-get_or, slice_get_read, slice_get-map, get_or_from_slice_get, same_Some, none-some, slice_get_within}
 use Rattle.attr_ids.specs.declared.ids.PosId.{PosId}
 use Rattle.rule_terms.specs.declared.pool.Pool.{Pool}
 use Rattle.rule_terms.specs.declared.rule.Rule.{Rule}
@@ -17,10 +17,10 @@ use Rattle.rule_terms.specs.declared.term.TermId.{TermId}
 use Rattle.rule_terms.specs.Names.{is_over, names_of, has_name, with_name, with_names}
 use Rattle.rule_terms.specs.Slots.{IsReadable, AreOrdered, nth, slot_terms, named}
 use Rattle.rule_terms.specs.Pool.{IsGrown, AreApart, IsMarked}
-use Rattle.rule_terms.specs.Kept.{met_terms, term_at, IsRule, AreRules}
+use Rattle.rule_terms.specs.Kept.{met_terms, term_at, IsRule, AreRules, AreEmptyRules}
 use Rattle.rule_terms.specs.Meeting.{Met, NotMet}
 use Rattle.rule_terms.specs.Inside.{shown, IsKept}
-use Rattle.rule_terms.specs.System.{System, IsSystem, terms_at, with_term}
+use Rattle.rule_terms.specs.System.{System, IsSystem, terms_at, with_masks, with_term}
 use Rattle.rule_terms.proofs.Marked.{slice_get-push, apart_from_marks}
 use Rattle.rule_terms.proofs.Slotted.{nth-grown, is_numbered-more, named-grown}
 use Rattle.rule_terms.proofs.Putting.{grown_length, grown_trans}
@@ -226,3 +226,59 @@ pub found_rule : (a : Inside) (s : System) (p : ℕ) (rule : Rule) → IsKept a 
 found_rule a s p rule kept same within read =
     let masks : length a.masks ≡ length s.masks = ap (λ (x : System). length x.masks) same in
     slice_get_read a.rules.items (length a.rules.items) p rule refl (omega (arith, kept.long)) read
+
+-- ---- a system with no term met in
+pub empty_none : (rules : List Rule) → rules ≡ [] → AreEmptyRules 0 rules
+empty_none rules none = record { long = ap length none; inputs = rw none (All-nil (λ (rule : Rule). rule.inputs ≡ [])); places = rw none (All-nil (λ (rule : Rule). rule.places.items ≡ [])) }
+
+pub empty_more : (count : ℕ) (rules after : List Rule) (rule : Rule) → AreEmptyRules count rules → after ≡ rules ++ rule ∷ [] → rule.inputs ≡ [] → rule.places.items ≡ [] → AreEmptyRules (count + 1) after
+empty_more count rules after rule are same no_input no_place = rw same (record {
+  long = length-append rules (rule ∷ []) ∙ ap (λ n. n + 1) are.long;
+  inputs = All-push (λ (r : Rule). r.inputs ≡ []) rules rule are.inputs no_input;
+  places = All-push (λ (r : Rule). r.places.items ≡ []) rules rule are.places no_place;
+})
+
+map_alike : {A B : Type 0} (f : A → B) (y : B) (xs : List A) → ((k : ℕ) (x : A) → slice_get xs k ≡ Some x → f x ≡ y) → map f xs ≡ replicate (length xs) y
+map_alike f y [] same = refl
+map_alike f y (x ∷ xs) same = rw (same zero x refl, map_alike f y xs (λ k z e. same (suc k) z e)) refl
+
+at_rule : (P : Rule → Type 0) (rules : List Rule) → All P rules → (k : ℕ) (rule : Rule) → slice_get rules k ≡ Some rule → P rule
+at_rule P rules all k rule e = subst P (get_or_from_slice_get rules k rule rule e) (all k rule (slice_get_within rules k rule e))
+
+module _ (rules : List Rule) (count : ℕ) (are : AreEmptyRules count rules) (slots : List Term) where
+  no_terms : (k : ℕ) (rule : Rule) → slice_get rules k ≡ Some rule → met_terms slots rule ≡ []
+  unfolding met_terms
+  no_terms k rule e = ap (map (term_at slots rule.inputs)) (at_rule (λ r. r.places.items ≡ []) rules are.places k rule e)
+
+  empty_rule : (k : ℕ) (rule : Rule) → slice_get rules k ≡ Some rule → IsRule count slots rule
+  empty_rule k rule e =
+      let no_input : rule.inputs ≡ [] = at_rule (λ r. r.inputs ≡ []) rules are.inputs k rule e in
+      let no_place : rule.places.items ≡ [] = at_rule (λ r. r.places.items ≡ []) rules are.places k rule e in
+      record {
+        places = λ i place f. absurd (none-some place (rw no_place at f));
+        inputs = no_input ∙ ap (λ terms. with_names [] (flat_map names_of terms)) (sym (no_terms k rule e));
+        apart = record { within = λ i p f. absurd (none-some p (rw no_input at f)); apart = λ i j p q f g same. absurd (none-some p (rw no_input at f)) };
+        over = rw (no_terms k rule e) (All-nil (λ term. is_over count term ≡ true));
+      }
+
+  no_marks : (marks : List ℕ) (k : ℕ) (rule : Rule) → slice_get rules k ≡ Some rule → IsMarked rule.inputs marks
+  no_marks marks k rule e i p f =
+      let no_input : rule.inputs ≡ [] = at_rule (λ r. r.inputs ≡ []) rules are.inputs k rule e in
+      absurd (none-some p (rw no_input at f))
+
+pub new_kept : (a : Inside) → length a.masks < 2 ^ 32 → All (λ mask. mask < 2 ^ 47) a.masks → AreEmptyRules (length a.masks) a.rules.items →
+    a.pool.slots.items ≡ [] → a.pool.inputs.items ≡ [] → length a.pool.marks.items ≡ length a.masks → IsKept a
+new_kept a fits facts are slots inputs marks = record {
+  fits = fits;
+  facts = facts;
+  long = are.long;
+  marks = marks;
+  closed = inputs;
+  ordered = λ place slot e. absurd (none-some slot (rw slots at e));
+  rules = empty_rule a.rules.items (length a.masks) are a.pool.slots.items;
+  marked = no_marks a.rules.items (length a.masks) are a.pool.slots.items a.pool.marks.items a.marked;
+}
+
+pub new_shown : (a : Inside) → AreEmptyRules (length a.masks) a.rules.items → shown a ≡ with_masks a.masks
+new_shown a are = same_shown a (with_masks a.masks) refl
+    (map_alike (met_terms a.pool.slots.items) [] a.rules.items (no_terms a.rules.items (length a.masks) are a.pool.slots.items) ∙ ap (λ n. replicate n []) are.long)

@@ -3,3 +3,4 @@ pub mod Marked
 pub mod Putting
 pub mod Reading
 pub mod Slotted
+pub mod Valued

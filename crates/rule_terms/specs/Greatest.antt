@@ -26,7 +26,3 @@ pub record IsGreatest (s : System) (best : List ℕ) : Type 0 where
 -- a list that contains every self-supporting one
 abbrev pub IsAbove : System → List ℕ → Type 0
 IsAbove s words = (others : List ℕ) → IsSelfSupporting s others → AreWithin others words
-
--- a list of words reached from the masks, where each step takes away only facts that the terms do not leave
-data Descends (s : System) : List ℕ → Type 0 where
-  from_masks : Descends s s.masks
