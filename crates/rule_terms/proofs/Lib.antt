@@ -1,5 +1,8 @@
+pub mod Greatest
 pub mod Keeping
 pub mod Marked
+pub mod Meeting
+pub mod Monotone
 pub mod Putting
 pub mod Reading
 pub mod Slotted

@@ -1,5 +1,5 @@
 -- The greatest list of words that supports itself.
-use Rattle.std.specs.Prelude.{◌≡◌, ℕ, ◌^◌, ◌<◌, List, length, slice_index, All}
+use Rattle.std.specs.Prelude.{◌≡◌, ℕ, ◌^◌, ◌<◌, List, length, slice_index, slice_set, bit_and, All}
 use Rattle.lattice_words.specs.Words.{IsWithin}
 use Rattle.rule_terms.specs.System.{System, value_in}
 
@@ -26,3 +26,17 @@ pub record IsGreatest (s : System) (best : List ℕ) : Type 0 where
 -- a list that contains every self-supporting one
 abbrev pub IsAbove : System → List ℕ → Type 0
 IsAbove s words = (others : List ℕ) → IsSelfSupporting s others → AreWithin others words
+
+-- the word of one position loses facts, none of which its mask and terms leave it over the words before
+pub record IsCut (s : System) (old new : List ℕ) : Type 0 where
+  pub place : ℕ
+  pub word : ℕ
+  pub is_position : place < length s.masks
+  pub written : new ≡ slice_set old place word
+  pub less : IsWithin word (slice_index old place)
+  pub keeps : IsWithin (bit_and (slice_index old place) (value_in s place old)) word
+
+-- words that are reached from the masks by cuts, one after another
+pub data IsReached (s : System) : List ℕ → Type 0 where
+  from_masks : IsReached s s.masks
+  then_cut : {old new : List ℕ} → IsReached s old → IsCut s old new → IsReached s new

@@ -1,0 +1,42 @@
+ghost use Rattle.std.specs.Prelude.{◌≡◌, ◌≢◌, ◌^◌, ◌<◌, ℕ, List, All, length, bit_and, slice_index};
+ghost use Rattle.lattice_words.specs.Words.{IsWithin};
+ghost use Rattle.rule_terms.specs.Meaning.{meaning};
+ghost use Rattle.rule_terms.specs.System.{System, IsSystem, with_term, value, value_in};
+ghost use Rattle.rule_terms.specs.Greatest.{AreWithin, Supports, IsGreatest, IsAbove, IsCut, IsReached};
+ghost use Rattle.rule_terms.specs.declared.term.NewTerm.{NewTerm};
+
+/// The value of a position that a term is met into becomes its And with what the term gives.
+pub fn meet_is_and()
+    ensures { (s : System) (p : ℕ) (term : NewTerm) (word : ℕ → ℕ) → p < length s.terms → value (with_term s p term) p word ≡ bit_and (value s p word) (meaning word term) }
+{
+}
+
+/// A term that is met into one position changes the value of no other.
+pub fn meet_changes_one_position()
+    ensures { (s : System) (p q : ℕ) (term : NewTerm) (word : ℕ → ℕ) → q ≢ p → value (with_term s p term) q word ≡ value s q word }
+{
+}
+
+/// More facts of all positions leave more facts of each.
+pub fn eval_is_monotone()
+    ensures { (s : System) → IsSystem s → (p : ℕ) (words others : List ℕ) → AreWithin words others → IsWithin (value_in s p words) (value_in s p others) }
+{
+}
+
+/// A system has one greatest list of words at most.
+pub fn the_greatest_is_one()
+    ensures { (s : System) (a b : List ℕ) → IsGreatest s a → IsGreatest s b → a ≡ b }
+{
+}
+
+/// A cut takes no fact away that a self-supporting list has, where the words before it have them all.
+pub fn a_cut_stays_above()
+    ensures { (s : System) → IsSystem s → (old new : List ℕ) → length old ≡ length s.masks → IsCut s old new → IsAbove s old → IsAbove s new }
+{
+}
+
+/// Cuts from the masks that come to an end come to the greatest list.
+pub fn cuts_lead_to_the_greatest()
+    ensures { (s : System) → IsSystem s → (words : List ℕ) → IsReached s words → All (λ word. word < 2 ^ 64) words → Supports s words → IsGreatest s words }
+{
+}
