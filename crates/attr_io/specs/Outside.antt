@@ -15,10 +15,10 @@ abbrev pub count_up : ℕ → ℕ
 count_up n = min (n + 1) (2 ^ 64 - 1)
 
 -- of the bytes that a source had left, where they are told, a read moved the first n to the front of
--- the buffer at Took(n), found none at End, and kept all at Failed
+-- the buffer at Took(n), found and left none at End, and kept all at Failed
 abbrev pub HasRead : Option (List ℕ) → Option (List ℕ) → ReadGot → List ℕ → Type 0
 HasRead old new (read.Took n) buf = (0 < n) × (n ≤ length buf) × Consumes old new (take n buf)
-HasRead old new read.End buf = IsAtEnd old × Keeps old new
+HasRead old new read.End buf = Keeps old new × IsAtEnd new
 HasRead old new read.Failed buf = Keeps old new
 
 -- to the bytes that a sink held, where they are told, a write added the first n of the piece at

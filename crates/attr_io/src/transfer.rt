@@ -1,5 +1,5 @@
-ghost use Rattle.std.specs.Prelude.{◌≡◌, ◌+◌, ◌≤◌, ◌⊎◌, IsOk, IsErrOf, IfOk, vec_len};
-ghost use Rattle.attr_io.specs.Outside.{Rose};
+ghost use Rattle.std.specs.Prelude.{◌≡◌, ◌+◌, ◌<◌, ◌≤◌, ◌⊎◌, IsOk, IsErrOf, IfOk, length, vec_len};
+ghost use Rattle.attr_io.specs.Outside.{HasRead, Rose, taken};
 ghost use Rattle.std.specs.Io.KnownBytes.{Appends};
 ghost use Rattle.attr_io.specs.Transfer.{AppendsPart, AreAtMost, AreMoreThan, GaveAtMost, GaveExactly, IsWhole};
 
@@ -38,6 +38,25 @@ pub enum WriteEnd {
 // The most bytes that are asked of a source at once.
 const CHUNK: usize = 65_536;
 
+// A function of its own, so that proofs see the buffer's length and not its bytes.
+fn make_buffer(alloc: Global) -> Result<Vec<u8>, AllocError>
+    ensures { IfOk result (λ buffer. vec_len buffer ≡ CHUNK) }
+{
+    vec![in alloc; 0u8; CHUNK]
+}
+
+// One read of at most `room` bytes, to the front of the buffer.
+fn read_front<S: Source>(source: &mut S, buffer: &mut [u8], room: usize) -> ReadGot
+    requires some { 0 < room }
+    requires fits { room ≤ length buffer.old }
+    ensures got { HasRead (S.left source.old) (S.left source.new) result buffer.new }
+    ensures within { taken result ≤ room }
+    ensures count { S.faults source.old ≤ S.faults source.new }
+    ensures failed { result ≡ ReadGot.Failed → Rose (S.faults source.old) (S.faults source.new) }
+{
+    source.read(&mut buffer[..room])
+}
+
 /// Reads a source to its end, of at most `limit` bytes. Reading goes through a buffer of 65,536 bytes.
 /// It stops at the first failed read, and as soon as one byte more than `limit` was taken.
 pub fn read_all<S: Source>(
@@ -60,11 +79,12 @@ pub fn read_all<S: Source>(
     ensures exceeds { AreMoreThan (S.left source.old) limit → ¬ Rose (S.faults source.old) (S.faults source.new)
         → IsErrOf result ReadStop.TooLarge ⊎ IsErrOf result ReadStop.NoMemory }
 {
-    let mut buffer = vec![in alloc; 0u8; CHUNK]?;
+    let mut storage = make_buffer(alloc)?;
+    let buffer = storage.as_mut_slice();
     let mut bytes = Vec::new(alloc);
     while bytes.len() <= limit {
         let room = (limit - bytes.len()).min(CHUNK - 1) + 1;
-        match source.read(&mut buffer[..room]) {
+        match read_front(source, buffer, room) {
             ReadGot::Took(count) => bytes.extend_from_slice(&buffer[..count])?,
             ReadGot::End => return Ok(bytes),
             ReadGot::Failed => return Err(ReadStop::Failed),
