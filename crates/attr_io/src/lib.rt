@@ -14,6 +14,8 @@ mod outside;
 mod script;
 mod std_streams;
 mod sure;
+#[cfg(test)]
+mod tests;
 mod transfer;
 
 pub use mem_sink::MemSink;

@@ -56,11 +56,14 @@ impl Source for SureSource {
 }
 
 /// A sink that takes each piece whole, keeps nothing and never fails.
-#[derive(Clone, Copy, Debug)]
+#[derive(Clone, Copy, Debug, Default)]
 pub struct SureSink;
 
 impl SureSink {
-    pub fn new() -> SureSink {
+    pub fn new() -> SureSink
+        ensures untold { ⟦<SureSink as Sink>⟧.held result ≡ None }
+        ensures count { ⟦<SureSink as Sink>⟧.faults result ≡ 0 }
+    {
         SureSink
     }
 }
