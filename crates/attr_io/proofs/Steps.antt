@@ -1,5 +1,5 @@
 -- One step more of a whole text that is read or written.
-use Rattle.std.proofs.Common.{◌≡◌, ℕ, ◌+◌, ◌≤◌, List, ◌++◌, length, take, drop, Option, Some, None, arith, length-append, subst, sym}
+use Rattle.std.proofs.Common.{◌≡◌, ℕ, ◌+◌, ◌≤◌, List, ◌++◌, length, take, drop, Option, arith, length-append, subst, sym}
 use Rattle.std.proofs.lemmas.List.{take-append-le}
 use Rattle.std.proofs.Math.Seq.{take-add}
 use Rattle.std.proofs.KnownBytes.{Appends-trans, Consumes-trans}
@@ -13,8 +13,8 @@ pub written_more : (a b c : Option (List ℕ)) (text rest : List ℕ) (at n : �
     → Appends a b (take at text) → Appends b c (take n rest) → Appends a c (take (at + n) text)
 written_more a b c text rest at n is first second =
     subst (Appends a c) (sym (take-add at n text))
-      (Appends-trans a b c (take at text) (take n (drop at text)) first
-        (subst (λ (r : List ℕ). Appends b c (take n r)) is second))
+    (Appends-trans a b c (take at text) (take n (drop at text)) first
+    (subst (λ (r : List ℕ). Appends b c (take n r)) is second))
 
 -- bytes read, and then others
 pub read_more : (a b c : Option (List ℕ)) (bytes more whole : List ℕ) → whole ≡ bytes ++ more

@@ -21,11 +21,11 @@ impl Model for MemSink {
     ghost Value = { SinkState };
 
     ghost view = { λ s. record {
-        content = take s.len s.room.items;
-        room_limit = length s.room.items;
-        failing = s.script.failing;
-        calls = s.script.calls;
-        fault_count = s.script.faults
+      content = take s.len s.room.items;
+      room_limit = length s.room.items;
+      failing = s.script.failing;
+      calls = s.script.calls;
+      fault_count = s.script.faults;
     } };
 
     ghost invariant = { λ s. s.len ≤ length s.room.items };
@@ -36,11 +36,11 @@ impl MemSink {
     /// from 1, are in `fail_at` fail.
     pub fn new(room: Text, fail_at: Numbers) -> MemSink
         ensures { result ≡ record {
-            content = [];
-            room_limit = length room;
-            failing = fail_at;
-            calls = 0;
-            fault_count = 0
+          content = [];
+          room_limit = length room;
+          failing = fail_at;
+          calls = 0;
+          fault_count = 0;
         } }
     {
         MemSink {

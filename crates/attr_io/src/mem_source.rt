@@ -21,11 +21,11 @@ impl Model for MemSource {
     ghost Value = { SourceState };
 
     ghost view = { λ s. record {
-        remaining = drop s.at s.bytes;
-        piece_limit = s.piece;
-        failing = s.script.failing;
-        calls = s.script.calls;
-        fault_count = s.script.faults
+      remaining = drop s.at s.bytes;
+      piece_limit = s.piece;
+      failing = s.script.failing;
+      calls = s.script.calls;
+      fault_count = s.script.faults;
     } };
 
     ghost invariant = { λ s. (s.at ≤ length s.bytes) × (1 ≤ s.piece) };
@@ -37,11 +37,11 @@ impl MemSource {
     pub fn new(bytes: Text, piece: usize, fail_at: Numbers) -> MemSource
         requires { 1 ≤ piece }
         ensures { result ≡ record {
-            remaining = bytes;
-            piece_limit = piece;
-            failing = fail_at;
-            calls = 0;
-            fault_count = 0
+          remaining = bytes;
+          piece_limit = piece;
+          failing = fail_at;
+          calls = 0;
+          fault_count = 0;
         } }
     {
         MemSource {

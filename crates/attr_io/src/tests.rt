@@ -24,11 +24,7 @@ fn numbers(alloc: Global, listed: &[u64]) -> Result<Numbers, AllocError> {
 fn words(alloc: Global, piece: usize, fail_at: &[u64]) -> Result<MemSource, AllocError>
     requires { 1 ≤ piece }
 {
-    Ok(MemSource::new(
-        text(alloc, WORDS)?,
-        piece,
-        numbers(alloc, fail_at)?,
-    ))
+    Ok(MemSource::new(text(alloc, WORDS)?, piece, numbers(alloc, fail_at)?))
 }
 
 fn holds(read: &Result<Vec<u8>, ReadStop>, bytes: &[u8]) -> bool {
@@ -79,7 +75,10 @@ fn reading_stops_one_byte_past_the_limit(rt: HostRuntime) -> Result<(), Fail> {
         let read = read_all(rt.alloc(), &mut source, 6);
         assert!(rt; stopped(&read, ReadStop::TooLarge));
         let rest = read_all(rt.alloc(), &mut source, 100);
-        assert!(rt; holds(&rest, b" void @g() nounwind"), "in pieces of {piece}");
+        assert!(rt;
+            holds(&rest, b" void @g() nounwind"),
+            "in pieces of {piece}"
+        );
     }
     Ok(())
 }
@@ -91,7 +90,10 @@ fn a_source_fails_at_just_the_listed_calls(rt: HostRuntime) -> Result<(), Fail> 
         let mut source = words(rt.alloc(), 8, &[call])?;
         let read = read_all(rt.alloc(), &mut source, 100);
         assert!(rt; stopped(&read, ReadStop::Failed), "at call {call}");
-        assert!(rt; read_all(rt.alloc(), &mut source, 100).is_ok(), "after call {call}");
+        assert!(rt;
+            read_all(rt.alloc(), &mut source, 100).is_ok(),
+            "after call {call}"
+        );
     }
     let mut source = words(rt.alloc(), 8, &[6, 0])?;
     assert!(rt; holds(&read_all(rt.alloc(), &mut source, 100), WORDS));
@@ -105,7 +107,14 @@ fn a_sink_holds_what_its_room_takes(rt: HostRuntime) -> Result<(), Fail> {
     for (room, held) in held.iter().enumerate() {
         let space = vec![in rt.alloc(); b'.'; room]?;
         let mut sink = MemSink::new(Text::from_vec(space), numbers(rt.alloc(), &[])?);
-        assert_eq!(rt; write_all(&mut sink, b"true"), if room == 4 { WriteEnd::Done } else { WriteEnd::Failed });
+        assert_eq!(rt;
+            write_all(&mut sink, b"true"),
+            if room == 4 {
+                WriteEnd::Done
+            } else {
+                WriteEnd::Failed
+            }
+        );
         assert_eq!(rt; sink.held(), *held);
         assert_eq!(rt; sink.write(b"!"), WriteGot::Failed);
         assert_eq!(rt; sink.held(), *held);
@@ -176,33 +185,60 @@ fn a_std_source_reads_its_reader(rt: HostRuntime) -> Result<(), Fail> {
     let mut source = StdSource::new(WORDS);
     assert!(rt; holds(&read_all(rt.alloc(), &mut source, 26), WORDS));
 
-    let mut source = StdSource::new(Broken { calls: 0, broken_at: 4 });
+    let mut source = StdSource::new(Broken {
+        calls: 0,
+        broken_at: 4,
+    });
     let mut buffer = [0; 8];
     assert_eq!(rt; source.read(&mut buffer), ReadGot::Took(1));
-    assert_eq!(rt; source.read(&mut buffer), ReadGot::Took(1), "past the interruption");
+    assert_eq!(rt;
+        source.read(&mut buffer),
+        ReadGot::Took(1),
+        "past the interruption"
+    );
     assert_eq!(rt; source.read(&mut buffer), ReadGot::Failed);
-    assert!(rt; holds(&read_all(rt.alloc(), &mut source, 26), b"a"), "after the fault");
+    assert!(rt;
+        holds(&read_all(rt.alloc(), &mut source, 26), b"a"),
+        "after the fault"
+    );
 
     let (reader, writer) = io::pipe(&rt)?;
     let mut sink = StdSink::new(writer);
     assert_eq!(rt; write_all(&mut sink, WORDS), WriteEnd::Done);
     drop(sink);
     let mut source = StdSource::new(reader);
-    assert!(rt; holds(&read_all(rt.alloc(), &mut source, 26), WORDS), "through a pipe");
+    assert!(rt;
+        holds(&read_all(rt.alloc(), &mut source, 26), WORDS),
+        "through a pipe"
+    );
     Ok(())
 }
 
 #[test]
 fn a_std_sink_writes_its_writer(rt: HostRuntime) -> Result<(), Fail> {
     let mut written = Vec::new(rt.alloc());
-    assert_eq!(rt; write_all(&mut StdSink::new(&mut written), WORDS), WriteEnd::Done);
+    assert_eq!(rt;
+        write_all(&mut StdSink::new(&mut written), WORDS),
+        WriteEnd::Done
+    );
     assert_eq!(rt; written.as_slice(), WORDS);
 
-    let mut sink = StdSink::new(Broken { calls: 0, broken_at: 4 });
+    let mut sink = StdSink::new(Broken {
+        calls: 0,
+        broken_at: 4,
+    });
     assert_eq!(rt; sink.write(b"abc"), WriteGot::Took(1));
-    assert_eq!(rt; sink.write(b"bc"), WriteGot::Took(1), "past the interruption");
+    assert_eq!(rt;
+        sink.write(b"bc"),
+        WriteGot::Took(1),
+        "past the interruption"
+    );
     assert_eq!(rt; sink.write(b"c"), WriteGot::Failed);
     assert_eq!(rt; sink.write(b"c"), WriteGot::Took(1), "after the fault");
-    assert_eq!(rt; sink.write(b"d"), WriteGot::Failed, "where no byte is taken");
+    assert_eq!(rt;
+        sink.write(b"d"),
+        WriteGot::Failed,
+        "where no byte is taken"
+    );
     Ok(())
 }

@@ -59,11 +59,7 @@ fn read_front<S: Source>(source: &mut S, buffer: &mut [u8], room: usize) -> Read
 
 /// Reads a source to its end, of at most `limit` bytes. Reading goes through a buffer of 65,536 bytes.
 /// It stops at the first failed read, and as soon as one byte more than `limit` was taken.
-pub fn read_all<S: Source>(
-    alloc: Global,
-    source: &mut S,
-    limit: usize,
-) -> Result<Vec<u8>, ReadStop>
+pub fn read_all<S: Source>(alloc: Global, source: &mut S, limit: usize) -> Result<Vec<u8>, ReadStop>
     ensures whole { IfOk result (λ bytes. IsWhole (S.left source.old) (S.left source.new) bytes.items) }
     ensures within { IfOk result (λ bytes. vec_len bytes ≤ limit) }
     ensures failed { IsErrOf result ReadStop.Failed → Rose (S.faults source.old) (S.faults source.new)

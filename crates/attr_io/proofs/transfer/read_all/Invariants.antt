@@ -8,7 +8,7 @@ invariant-loop-buffer g l = record {
   buffer : length l.buffer ≡ 65536;
   within : vec_len l.bytes ≤ l.limit + 1;
   given : Consumes (g.S.Source.left l.initial.source) (g.S.Source.left l.source) l.bytes.items;
-  count : g.S.Source.faults l.initial.source ≤ g.S.Source.faults l.source
+  count : g.S.Source.faults l.initial.source ≤ g.S.Source.faults l.source;
 }
 
 abbrev pub decreases-loop-buffer : goal.decreases-loop-buffer

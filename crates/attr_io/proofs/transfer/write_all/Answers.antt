@@ -11,5 +11,5 @@ loop-at-preserved g c =
     record {
       within = omega (arith, got, length-drop at text);
       written = written_more _ _ _ text _ at c.in-Took.count (take_all _ _ (omega (arith, length-drop at text))) c.loop-at.invariant.written got.2;
-      count = omega (arith, c.write.ensures.count)
+      count = omega (arith, c.write.ensures.count);
     }

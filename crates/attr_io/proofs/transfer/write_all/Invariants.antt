@@ -7,7 +7,7 @@ abbrev pub invariant-loop-at : goal.invariant-loop-at
 invariant-loop-at g l = record {
   within : l.at ≤ length l.bytes;
   written : Appends (g.O.Sink.held l.initial.sink) (g.O.Sink.held l.sink) (take l.at l.bytes);
-  count : g.O.Sink.faults l.initial.sink ≤ g.O.Sink.faults l.sink
+  count : g.O.Sink.faults l.initial.sink ≤ g.O.Sink.faults l.sink;
 }
 
 abbrev pub decreases-loop-at : goal.decreases-loop-at

@@ -7,7 +7,7 @@ abbrev pub invariant-loop-self : goal.invariant-loop-self
 invariant-loop-self g l = record {
   buffer : length l.buf ≡ length l.initial.buf;
   kept : Keeps (g.R.Read.remaining l.initial.self.reader) (g.R.Read.remaining l.self.reader);
-  count : l.initial.self.faults ≤ l.self.faults
+  count : l.initial.self.faults ≤ l.self.faults;
 }
 
 abbrev pub decreases-loop-self : goal.decreases-loop-self
