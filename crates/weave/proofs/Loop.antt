@@ -27,14 +27,14 @@ next_is {text} {insertions} {woven} {index} {copied} {items} {x} rising within s
     let here : index < length insertions = omega (arith, ap length same) in
     let read : x ≡ get_or insertions index x = cc in
     let rest_is : drop index insertions ≡ x ∷ drop (index + 1) insertions =
-      drop_more insertions index x here ∙ ap (λ y. y ∷ drop (index + 1) insertions) (sym read) in
+    drop_more insertions index x here ∙ ap (λ y. y ∷ drop (index + 1) insertions) (sym read) in
     record {
       rest_is = rest_is;
       after = All-head (λ y. copied ≤ y.at) x (drop (index + 1) insertions) (subst (λ (ys : List Insertion). All (λ y. copied ≤ y.at) ys) rest_is so_far.ahead);
       inside = All-head (λ y. y.at ≤ length text) x (drop (index + 1) insertions)
-        (subst (λ (ys : List Insertion). All (λ y. y.at ≤ length text) ys) rest_is (All-drop (λ y. y.at ≤ length text) index insertions within));
+          (subst (λ (ys : List Insertion). All (λ y. y.at ≤ length text) ys) rest_is (All-drop (λ y. y.at ≤ length text) index insertions within));
       later = rise-head x (drop (index + 1) insertions)
-        (subst (λ (ys : List Insertion). OffsetsRise ys) rest_is (IsNonDecreasingBy-drop (λ y. y.at) index insertions rising))
+          (subst (λ (ys : List Insertion). OffsetsRise ys) rest_is (IsNonDecreasingBy-drop (λ y. y.at) index insertions rising));
     }
 
 pub woven_more : {text : List ℕ} {insertions : List Insertion} {woven : List ℕ} {index copied : ℕ} {x : Insertion} →
@@ -44,12 +44,12 @@ woven_more {text} {insertions} {woven} {index} {copied} {x} so_far next =
     let part : List ℕ = take (x.at - copied) (drop copied text) in
     let rest : List Insertion = drop (index + 1) insertions in
     let step : woven_from (drop index insertions) copied (drop copied text) ≡ (part ++ spelled x (slice_get text x.at)) ++ woven_from rest x.at (drop x.at text) =
-      rw next.rest_is (woven_from-next copied x rest text next.after next.inside next.later) in
+    rw next.rest_is (woven_from-next copied x rest text next.after next.inside next.later) in
     record {
       within = next.inside;
       ahead = next.later;
       so_far = simp append_assoc
-        (simp append_assoc at (ap (λ t. woven ++ t) (sym step)) ∙ so_far.so_far)
+          (simp append_assoc at (ap (λ t. woven ++ t) (sym step)) ∙ so_far.so_far);
     }
 
 -- the step, by what the calls of the loop's body say

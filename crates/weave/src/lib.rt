@@ -8,5 +8,8 @@ mod laws;
 mod spelling;
 mod weaving;
 
-pub use laws::{no_insertion_changes_nothing, only_what_stands_at_an_offset_counts, woven_is_a_shuffle};
+pub use laws::{
+    no_insertion_changes_nothing, only_what_stands_at_an_offset_counts, woven_is_a_shuffle,
+    woven_is_as_long_as_its_parts,
+};
 pub use weaving::weave;

@@ -1,13 +1,23 @@
 ghost use Rattle.std.specs.Prelude.{◌≡◌, ◌++◌, length, min, slice_get, OnOk};
-ghost use Rattle.weave.specs.Woven.{joins_a_word, spelled};
+ghost use Rattle.weave.specs.Woven.{joins_a_word, parting, spelled};
 
 use attr_ids::{Insertion, NoMemory, Place};
 
 /// A letter, a digit or one of `_ . $ - :`, which would be read as part of the word before it.
-pub fn would_join(byte: u8) -> bool
+fn would_join(byte: u8) -> bool
     ensures { result ≡ joins_a_word byte }
 {
     byte.is_ascii_alphanumeric() || matches!(byte, b'_' | b'.' | b'$' | b'-' | b':')
+}
+
+/// One blank where the next byte would join the words before it, and nothing elsewhere.
+fn parting_before(next: Option<u8>) -> &'static [u8]
+    ensures { result.now ≡ parting next }
+{
+    match next {
+        Some(byte) if would_join(byte) => b" ",
+        _ => b"",
+    }
 }
 
 /// The byte of a text at an offset, none at its end.
@@ -23,9 +33,8 @@ pub fn spelled_len(insertion: &Insertion, next: Option<u8>) -> usize
 {
     let blanks = match insertion.place {
         Place::Return | Place::CallReturn => 1,
-        Place::Function | Place::Parameter | Place::Call | Place::Argument => {
-            if next.is_some_and(would_join) { 2 } else { 1 }
-        }
+        Place::Function | Place::Parameter | Place::Call | Place::Argument => 1
+            + parting_before(next).len(),
     };
     insertion.words.len().saturating_add(blanks)
 }
@@ -44,9 +53,7 @@ pub fn spell(woven: &mut Vec<u8>, insertion: &Insertion, next: Option<u8>) -> Re
         Place::Function | Place::Parameter | Place::Call | Place::Argument => {
             woven.push(b' ')?;
             woven.extend_from_slice(words)?;
-            if next.is_some_and(would_join) {
-                woven.push(b' ')?;
-            }
+            woven.extend_from_slice(parting_before(next))?;
         }
     }
     Ok(())

@@ -1,10 +1,9 @@
 ghost use Rattle.std.specs.Prelude.{◌≡◌, ◌+◌, ◌≤◌, All, length, min, slice_get, sum_by, IfOk};
 ghost use Rattle.weave.specs.Woven.{spelled, OffsetsRise, Woven};
 
+use crate::spelling::{byte_at, spell, spelled_len};
 use attr_ids::{Insertion, Insertions, NoMemory, Text};
 use std::alloc::Global;
-
-use crate::spelling::{byte_at, spell, spelled_len};
 
 /// The text with the words of each insertion put in at its offset, a count of bytes from the start
 /// of the text. The only error is that no memory is left. Memory is taken once, for the result.
@@ -28,10 +27,8 @@ pub fn weave(alloc: Global, text: &[u8], ins: &Insertions) -> Result<Text, NoMem
 
 /// The length of the woven text, or `usize::MAX` where it is longer.
 fn woven_len(text: &[u8], insertions: &[Insertion]) -> usize
-    ensures {
-        let added = sum_by (λ insertion. length (spelled insertion (slice_get text.now insertion.at))) insertions.now in
-            result ≡ min (length text.now + added) usize.MAX
-    }
+    ensures { let added = sum_by (λ insertion. length (spelled insertion (slice_get text.now insertion.at))) insertions.now in
+        result ≡ min (length text.now + added) usize.MAX }
 {
     let mut len = text.len();
     for insertion in insertions {
@@ -40,3 +37,6 @@ fn woven_len(text: &[u8], insertions: &[Insertion]) -> usize
     }
     len
 }
+
+#[cfg(test)]
+mod tests;

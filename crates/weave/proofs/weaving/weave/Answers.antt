@@ -13,14 +13,14 @@ slice_bounds-extend_from_slice-count c =
 pub slice_bounds-extend_from_slice-start : goal.slice_bounds-extend_from_slice-start
 slice_bounds-extend_from_slice-start c =
     let next : IsNext c.args.text.now c.args.ins.now c.loop-insertion.insertion-index c.loop-insertion.copied c.insertion-item.result =
-      next_is c.requires.rising c.requires.within c.loop-insertion.invariant c.as_slice-insertions.ensures c.loop-insertion-test.true c.insertion-item.is in
+    next_is c.requires.rising c.requires.within c.loop-insertion.invariant c.as_slice-insertions.ensures c.loop-insertion-test.true c.insertion-item.is in
     search rules
 
 pub loop-insertion-preserved : goal.loop-insertion-preserved
 loop-insertion-preserved c =
     woven_spelled c.loop-insertion.invariant
-      (next_is c.requires.rising c.requires.within c.loop-insertion.invariant c.as_slice-insertions.ensures c.loop-insertion-test.true c.insertion-item.is)
-      c.in_ok-extend_from_slice.ensures.items c.byte_at.ensures c.in_ok-spell.ensures
+    (next_is c.requires.rising c.requires.within c.loop-insertion.invariant c.as_slice-insertions.ensures c.loop-insertion-test.true c.insertion-item.is)
+    c.in_ok-extend_from_slice.ensures.items c.byte_at.ensures c.in_ok-spell.ensures
 
 pub returns : goal.returns
 returns c =
