@@ -12,10 +12,14 @@ fn is_fit(text: &[u8], insertions: &[Insertion]) -> bool
     ensures rising { IsTrue result → OffsetsRise insertions.now }
     ensures within { IsTrue result → All (λ insertion. insertion.at ≤ length text.now) insertions.now }
 {
-    insertions.is_sorted_by_key(|insertion| insertion.at)
-        && insertions
-            .iter()
-            .all(|insertion| insertion.at as usize <= text.len())
+    let mut last = 0;
+    for insertion in insertions {
+        if insertion.at < last || insertion.at as usize > text.len() {
+            return false;
+        }
+        last = insertion.at;
+    }
+    true
 }
 
 /// Weaves the words of a table, each at its offset, and compares.
