@@ -1,9 +1,9 @@
 -- The loop of `weave`: what it keeps, and its step.
-use Rattle.std.proofs.Common.{◌≡◌, ℕ, Option, ◌+◌, ◌-◌, ◌<◌, ◌≤◌, List, [], ◌∷◌, ◌++◌, length, take, drop, get_or, refl, sym, ◌∙◌, ap, subst, arith, append_assoc, append-nil}
+use Rattle.std.proofs.Common.{◌≡◌, ℕ, Option, ◌+◌, ◌-◌, ◌<◌, ◌≤◌, List, [], ◌∷◌, ◌++◌, length, take, drop, get_or, refl, sym, ◌∙◌, ap, subst, arith, append_assoc}
 use Rattle.std.proofs.lemmas.List.{drop_more, drop_all, take_rest}
-use Rattle.std.proofs.lemmas.List.Elements.{All-head, All-tail, All-drop, All-weaker}
+use Rattle.std.proofs.lemmas.List.Elements.{All-head, All-drop}
 use Rattle.std.proofs.lemmas.List.Sorted.{IsNonDecreasingBy-drop}
-use Rattle.std.specs.List.{All, slice_get, slice_index_or}
+use Rattle.std.specs.List.{All, slice_get}
 use Rattle.attr_ids.specs.declared.insertion.Insertion.{Insertion}
 use Rattle.weave.specs.Woven.{spelled, woven_from, OffsetsRise, Woven}
 use Rattle.weave.proofs.Steps.{woven_from-next, woven_from-nil, rise-head}

@@ -1,12 +1,11 @@
 -- A woven text is what a shuffle of its text and its insertions spells.
-use Rattle.std.proofs.Common.{◌≡◌, ℕ, zero, suc, ◌+◌, ◌-◌, ◌<◌, ◌≤◌, Some, List, [], ◌∷◌, ◌++◌, length, take, drop, min, refl, sym, ◌∙◌, ap, subst, arith, add-zero, append-nil}
-use Rattle.std.specs.Prelude.{◌↔◌}
+use Rattle.std.proofs.Common.{◌≡◌, ℕ, suc, ◌+◌, ◌-◌, ◌<◌, ◌≤◌, Some, List, [], ◌∷◌, ◌++◌, length, take, drop, refl, sym, ◌∙◌, ap, subst, arith, add-zero, append-nil}
 use Rattle.std.proofs.lemmas.List.{take-append-drop, length-take-le, length-drop}
 use Rattle.std.proofs.lemmas.List.Elements.{All-nil, All-cons, All-head, All-tail, All-weaker}
 use Rattle.std.specs.List.{All}
 use Rattle.attr_ids.specs.declared.insertion.Insertion.{Insertion}
 use Rattle.weave.specs.Shuffle.{Piece, Read, Added, read_of, added_of, first_of, InPlace, written, IsShuffle}
-use Rattle.weave.specs.Woven.{spelled, put, woven_from, OffsetsRise, Woven}
+use Rattle.weave.specs.Woven.{spelled, woven_from, OffsetsRise, Woven}
 use Rattle.weave.proofs.Steps.{put-none, woven_from-here, rise-head, rise-tail}
 
 -- insertions in place from an offset on stand at it or behind it

@@ -1,5 +1,5 @@
 use Rattle.std.proofs.Common.{length, arith}
-use Rattle.weave.proofs.Fit.{fit_none, fit_more, fit_all}
+use Rattle.weave.proofs.Fit.{fit_none, fit_more}
 use Rattle.weave.proofs.weaving.tests.is_fit.Goals as goal
 
 pub loop-insertion-init : goal.loop-insertion-init
