@@ -1,0 +1,5 @@
+pub mod LadderBits
+pub mod LadderLaws
+pub mod Locality
+pub mod Monotone
+pub mod WordBits

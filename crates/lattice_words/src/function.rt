@@ -1,0 +1,29 @@
+//! Bits of the word of a function with a body. The word of a segment's effect has the same bits, each
+//! for what that segment alone does.
+
+/// It does not unwind (LangRef, "Function Attributes", `nounwind`).
+pub const NOUNWIND: u32 = 0;
+
+/// It does not return (LangRef, `noreturn`).
+pub const NORETURN: u32 = 1;
+
+/// It frees nothing that existed before the call (LangRef, `nofree`).
+pub const NOFREE: u32 = 2;
+
+/// It does not read memory of the default location (LangRef, `memory(..)`).
+pub const NO_READ_OF_DEFAULT: u32 = 3;
+
+/// It does not write memory of the default location.
+pub const NO_WRITE_OF_DEFAULT: u32 = 4;
+
+/// It does not read memory through its pointer arguments.
+pub const NO_READ_OF_ARGMEM: u32 = 5;
+
+/// It does not write memory through its pointer arguments.
+pub const NO_WRITE_OF_ARGMEM: u32 = 6;
+
+/// It does not read memory that the module cannot reach.
+pub const NO_READ_OF_INACCESSIBLEMEM: u32 = 7;
+
+/// It does not write memory that the module cannot reach.
+pub const NO_WRITE_OF_INACCESSIBLEMEM: u32 = 8;

@@ -1,0 +1,8 @@
+//! Bits of the words that say which bodies a function does not reach by calls. A row has one word for
+//! each `BODIES` bodies; the word number k has the bit j for the body number k * `BODIES` + j.
+
+/// The bit of the first body of a word.
+pub const NOT_FIRST: u32 = 0;
+
+/// How many bodies one word speaks of.
+pub const BODIES: u32 = 47;

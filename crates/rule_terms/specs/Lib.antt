@@ -1,0 +1,10 @@
+pub mod Greatest
+pub mod Inside
+pub mod Kept
+pub mod Looked
+pub mod Meaning
+pub mod Meeting
+pub mod Names
+pub mod Pool
+pub mod Slots
+pub mod System

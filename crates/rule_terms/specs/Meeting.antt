@@ -1,0 +1,37 @@
+-- One more term met into a position.
+use Rattle.std.specs.Prelude.{◌≡◌, ℕ, bit_and, List, [], ◌∷◌, ◌++◌, length}
+use Rattle.std.specs.List.{fold}
+use Rattle.attr_ids.specs.declared.ids.PosId.{PosId}
+use Rattle.rule_terms.specs.declared.pool.Pool.{Pool}
+use Rattle.rule_terms.specs.declared.rule.Rule.{Rule}
+use Rattle.rule_terms.specs.declared.term.Term.{Term}
+use Rattle.rule_terms.specs.declared.term.TermId.{TermId}
+use Rattle.rule_terms.specs.declared.term.NewTerm.{NewTerm}
+use Rattle.rule_terms.specs.Names.{names_of, with_names}
+use Rattle.rule_terms.specs.Pool.{Has}
+use Rattle.rule_terms.specs.Kept.{term_at}
+use Rattle.rule_terms.specs.Slots.{IsReadable, nth, numbered_meaning, slot_terms}
+
+-- the term was put into the pool, and its place behind the others
+pub record PutMet (old new : Pool) (places more : List TermId) (term : NewTerm) : Type 0 where
+  pub place : TermId
+  pub pushed : more ≡ places ++ place ∷ []
+  pub has : Has new term place.0
+  pub names : new.inputs.items ≡ with_names old.inputs.items (names_of term)
+
+-- the rule has one more place, which has the term
+pub record Met (slots : List Term) (old new : Rule) (term : NewTerm) : Type 0 where
+  pub place : TermId
+  pub pushed : new.places.items ≡ old.places.items ++ place ∷ []
+  pub readable : IsReadable slots (length new.inputs) place.0
+  pub is : term_at slots new.inputs place ≡ term
+  pub names : new.inputs ≡ with_names old.inputs (names_of term)
+
+-- the rule has the same inputs and places
+pub record NotMet (old new : Rule) : Type 0 where
+  pub inputs : new.inputs ≡ old.inputs
+  pub places : new.places.items ≡ old.places.items
+
+-- the bits of the mask that each term at these places gives
+abbrev pub meet_places : (ℕ → ℕ) → List Term → ℕ → List TermId → ℕ
+meet_places word slots mask places = fold (λ bits place. bit_and bits (numbered_meaning word (nth (slot_terms slots) place.0))) mask places

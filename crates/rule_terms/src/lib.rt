@@ -1,0 +1,15 @@
+//! The terms of a deduction. What goes in is a mask of facts for each position, and then, for each
+//! position, terms over the words of positions; what comes out is what these leave of a position's
+//! mask. A layer above uses one contract: `System::meet` adds a term to the terms of one position, and
+//! `System::eval` and `System::eval_in` answer their And with the mask, a monotone function of the
+//! words of the position's inputs.
+#![tactic(auto)]
+
+mod pool;
+mod rule;
+mod system;
+mod term;
+mod value;
+
+pub use system::System;
+pub use term::{NewTerm, Term, TermId};

@@ -1,0 +1,138 @@
+ghost use Rattle.std.specs.Prelude.{◌≡◌, ◌^◌, ◌<◌, [], ◌∷◌, ◌++◌, length, replicate, All, IfOk, OnOk, OnErr, IsTrue, slice_index};
+ghost use Rattle.rule_terms.specs.Kept.{AreEmptyRules};
+ghost use Rattle.rule_terms.specs.Names.{is_over};
+ghost use Rattle.rule_terms.specs.System.{with_masks, with_term, value_in, value_at, inputs_of, IsSystem};
+
+use crate::pool::Pool;
+use crate::rule::{Rule, meet, meet_in, open};
+use crate::term::NewTerm;
+use crate::value::Looked;
+use attr_ids::{NoMemory, PosId, PosList, WordList};
+use smallvec::SmallVec;
+use std::alloc::Global;
+use std::marker::Model;
+
+/// A mask for each position, and the terms that were met into it.
+#[derive(Drop)]
+pub struct System {
+    masks: WordList,
+    pool: Pool,
+    rules: Vec<Rule>,
+    marked: u32,
+}
+
+impl Model for System {
+    ghost use Rattle.rule_terms.specs.System.{System as Shown};
+
+    ghost Value = { Shown };
+
+    ghost use Rattle.rule_terms.specs.contracts.term.NewTerm as new_term;
+    ghost use Rattle.std.specs.Coded.{codes};
+
+    ghost coded = { Prim.hlevel (codes, new_term.the_row.coded) };
+
+    ghost use Rattle.rule_terms.specs.Inside.{shown, IsKept};
+
+    ghost view = { shown };
+
+    ghost invariant = { IsKept };
+}
+
+// A rule for each position, that no term was met into yet.
+fn rules_of(alloc: Global, count: usize) -> Result<Vec<Rule>, NoMemory>
+    ensures { IfOk result (λ rules. AreEmptyRules count rules.items) }
+{
+    let mut rules = Vec::with_capacity(alloc, count)?;
+    for _ in 0..count {
+        rules.push(Rule {
+            inputs: PosList::new(alloc),
+            places: SmallVec::new(alloc),
+        })?;
+    }
+    Ok(rules)
+}
+
+impl System {
+    /// A system in which the term of each position is its mask.
+    pub fn new(alloc: Global, masks: WordList) -> Result<System, NoMemory>
+        requires fits { length masks < 2 ^ 32 }
+        requires facts { All (λ mask. mask < 2 ^ 47) masks }
+        ensures { IfOk result (λ system. system ≡ with_masks masks) }
+    {
+        let count = masks.len();
+        let rules = rules_of(alloc, count)?;
+        let marks = vec![in alloc; 0; count]?;
+        Ok(System {
+            masks,
+            pool: Pool {
+                slots: Vec::new(alloc),
+                inputs: Vec::new(alloc),
+                marks,
+            },
+            rules,
+            marked: 0,
+        })
+    }
+
+    /// The term of the position becomes its And with this one. Without memory the system stays as it was.
+    pub fn meet(&mut self, alloc: Global, p: PosId, term: NewTerm) -> Result<(), NoMemory>
+        requires place { p.0 < length self.old.masks }
+        requires over { IsTrue (is_over (length self.old.masks) term) }
+        ensures ok { OnOk result (self.new ≡ with_term self.old p.0 term) }
+        ensures err { OnErr result (self.new ≡ self.old) }
+    {
+        open(&self.rules, &mut self.pool, &mut self.marked, p);
+        meet_in(&mut self.pool, &mut self.rules[p.0 as usize], alloc, &term)
+    }
+
+    /// How many positions the system has.
+    pub fn count(&self) -> u32
+        ensures positions { result ≡ length self.now.masks }
+        ensures system { IsSystem self.now }
+    {
+        self.masks.len() as u32
+    }
+
+    /// The facts that the position may have at all.
+    pub fn mask(&self, p: PosId) -> u64
+        requires { p.0 < length self.now.masks }
+        ensures mask { result ≡ slice_index self.now.masks p.0 }
+        ensures facts { result < 2 ^ 47 }
+    {
+        self.masks.as_slice()[p.0 as usize]
+    }
+
+    /// The positions that the position's terms name, each once, in the order in which they are first named.
+    pub fn inputs(&self, p: PosId) -> &PosList
+        requires { p.0 < length self.now.masks }
+        ensures { result.now ≡ inputs_of self.now p.0 }
+    {
+        &self.rules[p.0 as usize].inputs
+    }
+
+    /// What the position's mask and terms leave, where `looked` has the word of each of its inputs, in their order.
+    pub fn eval(&self, p: PosId, looked: &[u64]) -> u64
+        requires place { p.0 < length self.now.masks }
+        requires looked { length looked.now ≡ length (inputs_of self.now p.0) }
+        ensures { result ≡ value_at self.now p.0 looked.now }
+    {
+        let rule = &self.rules[p.0 as usize];
+        let mask = self.masks.as_slice()[p.0 as usize];
+        meet(&self.pool.slots, &Looked::Each(looked), rule.places.as_slice(), mask)
+    }
+
+    /// What the position's mask and terms leave, where `words` has the word of each position.
+    pub fn eval_in(&self, p: PosId, words: &WordList) -> u64
+        requires place { p.0 < length self.now.masks }
+        requires words { length words.now ≡ length self.now.masks }
+        ensures { result ≡ value_in self.now p.0 words.now }
+    {
+        let rule = &self.rules[p.0 as usize];
+        let mask = self.masks.as_slice()[p.0 as usize];
+        let looked = Looked::Through {
+            inputs: rule.inputs.as_slice(),
+            words: words.as_slice(),
+        };
+        meet(&self.pool.slots, &looked, rule.places.as_slice(), mask)
+    }
+}
