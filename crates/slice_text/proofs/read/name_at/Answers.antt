@@ -1,0 +1,18 @@
+use Rattle.std.proofs.Common.{arith}
+use Rattle.slice_text.specs.Entities.{Name}
+use Rattle.slice_text.proofs.Leaves.{name_step, no_front, front_leaf, named, token_of}
+use Rattle.slice_text.proofs.read.name_at.Goals as goal
+
+pub returns-then-at-tokens-clause-none : goal.returns-then-at-tokens-clause-none
+returns-then-at-tokens-clause-none c = λ span rest e. no_front c.args.tokens.now c.args.at (Name span) rest (omega arith) e
+
+pub returns-then-is_symbol-clause-some : goal.returns-then-is_symbol-clause-some
+returns-then-is_symbol-clause-some c = name_step c.args.tokens.now c.args.at (omega arith) (c.is_symbol.ensures.0 c.if-is_symbol.true)
+
+pub returns-else-is_symbol-clause-none : goal.returns-else-is_symbol-clause-none
+returns-else-is_symbol-clause-none c = λ span rest e.
+    let is = named (token_of c.args.tokens.now c.args.at).symbol span (token_of c.args.tokens.now c.args.at).span
+    (front_leaf c.args.tokens.now c.args.at (Name span) rest (omega arith) e) in
+    let yes' = c.is_symbol.ensures.1 is in
+    let no' = c.if-is_symbol.false in
+    absurd (cc)
