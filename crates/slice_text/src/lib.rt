@@ -7,6 +7,8 @@
 mod entity;
 mod read;
 mod scan;
+#[cfg(test)]
+mod tests;
 mod token;
 
 pub use entity::{Body, Entities, Entity, Mention, Mentions};

@@ -1,0 +1,5 @@
+pub mod Built
+pub mod Composed
+pub mod Swept
+pub mod Terms
+pub mod Once

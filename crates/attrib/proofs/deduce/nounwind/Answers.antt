@@ -1,0 +1,8 @@
+use Rattle.std.proofs.Common.{subst}
+use Rattle.rule_terms.specs.Greatest as rule
+use Rattle.attrib.proofs.Composed.{greatest_facts}
+use Rattle.attrib.proofs.deduce.nounwind.Goals as goal
+
+pub returns : goal.returns
+returns c = greatest_facts c.args.m.now c.in_ok-words.words
+    (subst (λ s. rule.IsGreatest s c.in_ok-words.words) c.in_ok-system.ensures c.in_ok-words.ensures)

@@ -1,0 +1,11 @@
+pub use Rattle.slice_facts.specs.Tokens
+pub use Rattle.slice_facts.specs.Entities
+pub use Rattle.slice_facts.specs.Places
+pub use Rattle.slice_facts.specs.Names
+pub use Rattle.slice_facts.specs.Module
+pub use Rattle.slice_facts.specs.Facts
+pub use Rattle.slice_facts.specs.Printed
+pub use Rattle.weave.specs.Woven
+pub mod Annotated
+pub mod Deduced
+pub mod Run
