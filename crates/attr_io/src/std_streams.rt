@@ -6,7 +6,7 @@ use std::io::{ErrorKind, Read, Write};
 /// A source over a reader of `std`, such as the standard input. Each read of the source is a read of
 /// the reader into the same buffer. It tells the bytes that the reader tells, so none over a file, a
 /// pipe or a terminal. Each error of the reader counts as a fault; a read that was interrupted is
-/// counted and tried again.
+/// counted and tried again. Once the count stands at its greatest value, no more is read.
 #[derive(Debug, Drop)]
 pub struct StdSource<R> {
     reader: R,
@@ -48,7 +48,8 @@ impl<R: Read> Source for StdSource<R> {
 /// the writer with the same piece, and nothing is kept back, so the writer should keep no buffer of
 /// its own. It tells the bytes that the writer tells, so none over a file, a pipe or a terminal. Each
 /// error of the writer counts as a fault, and so does a write that takes no byte; a write that was
-/// interrupted is counted and tried again.
+/// interrupted is counted and tried again. Once the count stands at its greatest value, no more is
+/// written.
 #[derive(Debug, Drop)]
 pub struct StdSink<W> {
     writer: W,
