@@ -1,3 +1,4 @@
+pub mod Equations
 pub mod Greatest
 pub mod Keeping
 pub mod Local

@@ -156,7 +156,7 @@ value-agrees s is p words others agree =
 -- the words that were looked at agree on what is read of each position, where they do on what is read of each input
 looked_agrees : (inputs : List PosId) (a b : List ℕ) (reads : ℕ → ℕ) → length a ≡ length inputs → length b ≡ length inputs →
     ((i : ℕ) → i < length inputs → AgreeOn (reads (input_at inputs i).0) (slice_index a i) (slice_index b i)) → (q : ℕ) → AgreeOn (reads q) (looked_word inputs a q) (looked_word inputs b q)
-looked_agrees [] a b reads long same agree q i l is = refl
+looked_agrees [] a b reads long same agree q = λ i l is. refl
 looked_agrees (p ∷ ps) [] b reads long same agree q = absurd (omega arith)
 looked_agrees (p ∷ ps) (v ∷ vs) [] reads long same agree q = absurd (omega arith)
 looked_agrees (p ∷ ps) (v ∷ vs) (w ∷ ws) reads long same agree q =

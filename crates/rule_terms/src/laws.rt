@@ -1,7 +1,8 @@
 ghost use Rattle.std.specs.Prelude.{◌≡◌, ◌≢◌, ◌^◌, ◌<◌, ℕ, List, All, length, bit_and, slice_index};
 ghost use Rattle.lattice_words.specs.Words.{IsWithin};
 ghost use Rattle.rule_terms.specs.Meaning.{meaning};
-ghost use Rattle.rule_terms.specs.System.{System, IsSystem, with_term, value, value_in};
+ghost use Rattle.rule_terms.specs.System.{System, IsSystem, with_term, value, value_at, value_in, inputs_of};
+ghost use Rattle.rule_terms.specs.Reads.{reads_at, AgreeOn};
 ghost use Rattle.rule_terms.specs.Greatest.{AreWithin, Supports, IsGreatest, IsAbove, IsCut, IsReached};
 ghost use Rattle.rule_terms.specs.declared.term.NewTerm.{NewTerm};
 
@@ -38,5 +39,13 @@ pub fn a_cut_stays_above()
 /// Cuts from the masks that come to an end come to the greatest list.
 pub fn cuts_lead_to_the_greatest()
     ensures { (s : System) → IsSystem s → (words : List ℕ) → IsReached s words → All (λ word. word < 2 ^ 64) words → Supports s words → IsGreatest s words }
+{
+}
+
+/// What is left of a position, cut to its mask, goes by the bits alone that are read of each input.
+pub fn eval_goes_by_what_is_read()
+    ensures { (s : System) → IsSystem s → (p : ℕ) (a b : List ℕ) → length a ≡ length (inputs_of s p) → length b ≡ length (inputs_of s p) →
+        ((i : ℕ) → i < length (inputs_of s p) → AgreeOn (reads_at s p i) (slice_index a i) (slice_index b i)) →
+        bit_and (slice_index s.masks p) (value_at s p a) ≡ bit_and (slice_index s.masks p) (value_at s p b) }
 {
 }

@@ -149,3 +149,6 @@ impl System {
         reads_in(&self.pool.slots, rule.places.as_slice(), i, mask)
     }
 }
+
+#[cfg(test)]
+mod tests;
