@@ -5,6 +5,7 @@ pub mod Local
 pub mod Marked
 pub mod Meeting
 pub mod Monotone
+pub mod Naming
 pub mod Putting
 pub mod Reading
 pub mod ReadsShown

@@ -1,6 +1,7 @@
-ghost use Rattle.std.specs.Prelude.{◌≡◌, ◌^◌, ◌<◌, IfOk, length, replicate};
+ghost use Rattle.std.specs.Prelude.{◌≡◌, IfOk, length};
 
 use super::*;
+use lattice_words::value::{ALIGN_2, ALIGN_4, ALL_BYTES, BYTES_1, BYTES_2, BYTES_4, BYTES_8};
 use sqlite_items::Boxed;
 use std::test::Fail;
 
@@ -11,6 +12,12 @@ fn three(alloc: Global) -> Result<System, NoMemory>
     ensures { IfOk result (λ system. length system.masks ≡ 3) }
 {
     System::new(alloc, WordList::from_slice(alloc, &[ALL, ALL, ALL])?)
+}
+
+fn boxed(alloc: Global, term: NewTerm) -> Result<Boxed<NewTerm>, NoMemory>
+    ensures { IfOk result (λ part. part ≡ term) }
+{
+    Ok(Boxed::new(alloc, term)?)
 }
 
 #[test]
@@ -35,5 +42,7 @@ fn the_terms_of_a_position_are_met(rt: HostRuntime) -> Result<(), Fail> {
     assert_eq!(rt; system.inputs(PosId(0)).as_slice(), [PosId(2)].as_slice());
     assert_eq!(rt; system.eval_in(PosId(0), &words), 4);
     assert_eq!(rt; system.eval_in(PosId(1), &words), ALL);
+    assert_eq!(rt; system.reads(PosId(0), 0), ALL);
+    assert_eq!(rt; system.eval(PosId(0), &[5]), 4);
     Ok(())
 }
