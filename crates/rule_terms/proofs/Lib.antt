@@ -1,9 +1,13 @@
+pub mod Equations
 pub mod Greatest
 pub mod Keeping
+pub mod Local
 pub mod Marked
 pub mod Meeting
 pub mod Monotone
+pub mod Naming
 pub mod Putting
 pub mod Reading
+pub mod ReadsShown
 pub mod Slotted
 pub mod Valued

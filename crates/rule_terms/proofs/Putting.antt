@@ -19,8 +19,6 @@ use Rattle.rule_terms.specs.Pool.{IsPool, IsGrown, GoesOn, Has}
 use Rattle.rule_terms.proofs.Marked.{slice_get-push, slice_get-append_left}
 use Rattle.rule_terms.proofs.Slotted.{nth-grown, nth-pushed, is_numbered-more, named-grown}
 
-pub ruleset equations = (the_lemmas, fold-roll-NewTerm, fold_out-NewTerm)
-
 pub grown_refl : {A : Type 0} (xs : List A) → IsGrown xs xs
 grown_refl xs = ([], sym (append-nil xs))
 

@@ -6,5 +6,7 @@ pub mod Meaning
 pub mod Meeting
 pub mod Names
 pub mod Pool
+pub mod Reads
+pub mod SlotReads
 pub mod Slots
 pub mod System

@@ -2,13 +2,14 @@ ghost use Rattle.std.specs.Prelude.{◌≡◌, ◌^◌, ◌<◌, ℕ, [], ◌∷
 ghost use Rattle.rule_terms.specs.Kept.{AreApartAt, IsMarkedAt};
 ghost use Rattle.rule_terms.specs.Pool.{IsMarked, IsPool, IsRemarked, GoesOn};
 ghost use Rattle.rule_terms.specs.Names.{is_over, names_of, with_names};
+ghost use Rattle.rule_terms.specs.SlotReads.{places_read};
 ghost use Rattle.rule_terms.specs.Slots.{AreOrdered, IsReadable, nth, numbered_meaning, slot_terms};
 ghost use Rattle.rule_terms.specs.Looked.{input_word, input_count, HasWords};
 ghost use Rattle.rule_terms.specs.Meeting.{Met, PutMet, NotMet, meet_places};
 
 use crate::pool::Pool;
 use crate::term::{NewTerm, Term, TermId};
-use crate::value::{Looked, value};
+use crate::value::{Looked, reads, value};
 use attr_ids::{NoMemory, PosId, PosList};
 use smallvec::SmallVec;
 use std::alloc::Global;
@@ -84,4 +85,17 @@ pub(crate) fn meet(slots: &[Term], looked: &Looked<'_>, places: &[TermId], mask:
         word &= value(slots, looked, *place);
     }
     word
+}
+
+/// What the terms at these places read of the input of this number, where the bits `wanted` are wanted of each.
+pub(crate) fn reads_in(slots: &[Term], places: &[TermId], read: u32, wanted: u64) -> u64
+    requires ordered { AreOrdered slots.now }
+    requires readable { (k : ℕ) (place : _) → slice_get places.now k ≡ Some place → (count : ℕ) × IsReadable slots.now count place.0 }
+    ensures { result ≡ places_read read slots.now wanted places.now }
+{
+    let mut bits = 0;
+    for place in places {
+        bits |= reads(slots, read, wanted, *place);
+    }
+    bits
 }

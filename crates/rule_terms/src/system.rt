@@ -1,10 +1,11 @@
 ghost use Rattle.std.specs.Prelude.{◌≡◌, ◌^◌, ◌<◌, [], ◌∷◌, ◌++◌, length, replicate, All, IfOk, OnOk, OnErr, IsTrue, slice_index};
 ghost use Rattle.rule_terms.specs.Kept.{AreEmptyRules};
 ghost use Rattle.rule_terms.specs.Names.{is_over};
+ghost use Rattle.rule_terms.specs.Reads.{reads_at};
 ghost use Rattle.rule_terms.specs.System.{with_masks, with_term, value_in, value_at, inputs_of, IsSystem};
 
 use crate::pool::Pool;
-use crate::rule::{Rule, meet, meet_in, open};
+use crate::rule::{Rule, meet, meet_in, open, reads_in};
 use crate::term::NewTerm;
 use crate::value::Looked;
 use attr_ids::{NoMemory, PosId, PosList, WordList};
@@ -135,4 +136,19 @@ impl System {
         };
         meet(&self.pool.slots, &looked, rule.places.as_slice(), mask)
     }
+
+    /// The bits that the position's terms read of its input number `i`, where those of its mask are wanted:
+    /// `eval`, cut to the mask, is the same for words that have the same of them.
+    pub fn reads(&self, p: PosId, i: u32) -> u64
+        requires place { p.0 < length self.now.masks }
+        requires input { i < length (inputs_of self.now p.0) }
+        ensures { result ≡ reads_at self.now p.0 i }
+    {
+        let rule = &self.rules[p.0 as usize];
+        let mask = self.masks.as_slice()[p.0 as usize];
+        reads_in(&self.pool.slots, rule.places.as_slice(), i, mask)
+    }
 }
+
+#[cfg(test)]
+mod tests;
