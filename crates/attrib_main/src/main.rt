@@ -5,10 +5,9 @@ use attr_ids::Status;
 use attr_io::{Gate, StdSink, StdSource, write_all};
 use attrib::attrib;
 use std::alloc::Global;
-use std::env;
 use std::env::Env;
-use std::io;
 use std::process::ExitCode;
+use std::{env, io};
 
 /// A gate that holds nobody back.
 struct OpenGate;

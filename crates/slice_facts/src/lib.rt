@@ -18,7 +18,8 @@ mod tests {
 
     #[test]
     fn words_stand_at_headers_and_calls_of_bodies(rt: HostRuntime) -> Result<(), Fail> {
-        let text = b"declare void @x() nounwind define void @f() { call void @f() call void @x() ret void }";
+        let text =
+            b"declare void @x() nounwind define void @f() { call void @f() call void @x() ret void }";
         let module = module_of(rt.alloc(), text)?;
         let words = WordList::from_slice(rt.alloc(), &[0, 1])?;
         let added = insertions(rt.alloc(), &module, &words)?;

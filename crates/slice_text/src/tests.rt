@@ -2,7 +2,8 @@ use crate::{Symbol, TextRefusal, entities, tokens};
 use std::process::Abort;
 use std::test::Fail;
 
-const TEXT: &[u8] = b"declare void @x() nounwind ; call\n\tdefine internal void@f-1(){call void @x()ret void}";
+const TEXT: &[u8] =
+    b"declare void @x() nounwind ; call\n\tdefine internal void@f-1(){call void @x()ret void}";
 
 #[test]
 fn tokens_stand_between_blanks_and_comments(rt: HostRuntime) -> Result<(), Fail> {
@@ -21,14 +22,20 @@ fn entities_keep_names_and_closing_parentheses(rt: HostRuntime) -> Result<(), Fa
     let entities = entities.as_slice();
     assert_eq!(rt; entities.len(), 2);
     assert!(rt; entities[0].header.nounwind && entities[0].body.is_none());
-    assert_eq!(rt; (entities[0].header.name.from, entities[0].header.after), (13, 17));
+    assert_eq!(rt;
+        (entities[0].header.name.from, entities[0].header.after),
+        (13, 17)
+    );
     let Some(body) = &entities[1].body else {
         return rt.panic("the second entity is a definition");
     };
     assert!(rt; body.internal && !entities[1].header.nounwind);
     let calls = body.calls.as_slice();
     assert_eq!(rt; calls.len(), 1);
-    assert_eq!(rt; (calls[0].name.from, calls[0].name.to, calls[0].after), (72, 74, 76));
+    assert_eq!(rt;
+        (calls[0].name.from, calls[0].name.to, calls[0].after),
+        (72, 74, 76)
+    );
     Ok(())
 }
 
