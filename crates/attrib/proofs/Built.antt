@@ -1,11 +1,10 @@
 -- Which terms the system of a module has at a position.
-use Rattle.std.proofs.Common.{◌≡◌, ◌≢◌, ℕ, zero, suc, ◌+◌, ◌<◌, ◌≤◌, List, [], ◌∷◌, ◌++◌, length, length-set, map, get_or, set, Option, Some, None, refl, sym, ap, subst, ◌∙◌, arith, get_or-set_same, get_or-set_other, append_assoc}
+use Rattle.std.proofs.Common.{◌≡◌, ◌≢◌, ℕ, zero, suc, ◌+◌, ◌<◌, ◌≤◌, List, [], ◌∷◌, ◌++◌, length, length-set, map, get_or, Some, refl, sym, ap, ◌∙◌, arith, get_or-set_same, get_or-set_other, append_assoc}
 use Rattle.std.specs.List.{slice_get}
 use Rattle.std.specs.Prelude.{replicate}
 use Rattle.std.proofs.lemmas.List.{length-map, append-nil, length-replicate}
 use Rattle.rule_terms.specs.declared.term.NewTerm.{NewTerm}
 use Rattle.rule_terms.specs.System.{System, with_masks, with_term, terms_at}
-use Rattle.slice_module.specs.declared.module.Call.{Call}
 use Rattle.slice_module.specs.declared.module.Func.{Func}
 use Rattle.slice_module.specs.declared.module.Module.{Module}
 use Rattle.slice_module.specs.Module.{calls_of}
@@ -57,7 +56,7 @@ functions_at m s i p zero (g ∷ fs) f e is l none =
 functions_at m s i p (suc k) (g ∷ fs) f e is l none =
     let terms = map (term_of m) (calls_of g) in
     functions_at m (with_terms s i terms) (i + 1) p k fs f (omega arith) is (omega (arith, terms_long s i terms))
-      (λ q le. terms_other s i q terms (λ same. omega arith) ∙ none q (omega arith))
+    (λ q le. terms_other s i q terms (λ same. omega arith) ∙ none q (omega arith))
 
 abbrev no_list : List NewTerm
 no_list = []
@@ -75,7 +74,7 @@ get_length (g ∷ fs) (suc p) f e = omega (arith, get_length fs p f e)
 pub terms_of_system : (m : Module) (p : ℕ) (f : Func) → slice_get m.funcs p ≡ Some f → terms_at (system_of m) p ≡ map (term_of m) (calls_of f)
 terms_of_system m p f is =
     functions_at m (with_masks (masks_of m)) 0 p p m.funcs f (omega arith) is
-      (omega (arith, length-replicate (length (masks_of m)) no_list, length-map m.funcs (λ f. bit_of (is_some f.body)), get_length m.funcs p f is)) (λ q _. no_terms (length (masks_of m)) q)
+    (omega (arith, length-replicate (length (masks_of m)) no_list, length-map m.funcs (λ f. bit_of (is_some f.body)), get_length m.funcs p f is)) (λ q _. no_terms (length (masks_of m)) q)
 
 pub system_masks : (m : Module) → (system_of m).masks ≡ masks_of m
 system_masks m = functions_masks m (with_masks (masks_of m)) 0 m.funcs

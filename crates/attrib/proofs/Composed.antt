@@ -1,12 +1,12 @@
 -- The greatest words of a module's system hold the greatest set of its facts.
-use Rattle.std.proofs.Common.{◌≡◌, ℕ, zero, suc, ◌+◌, ◌^◌, ◌<◌, ◌≤◌, ◌==◌, ◌||◌, Bool, true, false, if◌then◌else◌, bit_and, List, [], ◌∷◌, length, map, get_or, slice_index, Option, Some, None, All, refl, sym, ap, subst, ◌∙◌, arith, inl, inr, ◌⊎◌}
-use Rattle.std.specs.List.{slice_get, fold, AllByRecursion}
+use Rattle.std.proofs.Common.{◌≡◌, ℕ, zero, suc, ◌+◌, ◌^◌, ◌<◌, ◌≤◌, ◌==◌, Bool, true, false, if◌then◌else◌, bit_and, List, [], ◌∷◌, length, map, slice_index, Some, refl, sym, ap, subst, ◌∙◌, arith, inl, inr}
+use Rattle.std.specs.List.{slice_get, AllByRecursion}
 use Rattle.std.specs.Option.{is_some}
 use Rattle.std.specs.Int.{bit_at}
-use Rattle.std.proofs.lemmas.List.{length-map, get_or_past, get_or-map}
+use Rattle.std.proofs.lemmas.List.{length-map, get_or_past}
 use Rattle.std.proofs.lemmas.List.Elements.{recursion_from_All, All-from_recursion}
 use Rattle.std.proofs.lemmas.Nat.Bits.{bit_at_and, bit_at-lt, bit_at-zero, bit_at_above}
-use Rattle.std.proofs.lemmas.Bool.{cases_lt, cases_eq}
+use Rattle.std.proofs.lemmas.Bool.{cases_lt}
 use Rattle.std.proofs.lemmas.Bool.Decides.{nat_tests}
 use Rattle.lattice_words.specs.Words.{IsWithin}
 use Rattle.rule_terms.specs.declared.term.NewTerm.{NewTerm}
@@ -14,14 +14,14 @@ use Rattle.rule_terms.specs.declared.term.NewTerm.TheOpen.NewTerm-F.{Word, Const
 use Rattle.rule_terms.specs.declared.term.NewTerm.TheViews.{roll-NewTerm}
 use Rattle.rule_terms.specs.declared.term.NewTerm.TheFolds.{fold-roll-NewTerm}
 use Rattle.rule_terms.specs.Meaning.{meaning, layer_meaning, meet_of}
-use Rattle.rule_terms.specs.System.{System, terms_at, value_in}
+use Rattle.rule_terms.specs.System.{terms_at, value_in}
 use Rattle.rule_terms.specs.Greatest as rule
 use Rattle.slice_module.specs.declared.module.Call.{Call}
 use Rattle.slice_module.specs.declared.module.Func.{Func}
 use Rattle.slice_module.specs.declared.module.Module.{Module}
 use Rattle.slice_module.specs.Module.{calls_of}
-use Rattle.slice_facts.specs.Facts.{has_body, is_body, is_promised, keeps, Justified, SupportsItself, IsGreatest, held_in}
-use Rattle.attrib.specs.Deduced.{bit_of, masks_of, term_of, system_of}
+use Rattle.slice_facts.specs.Facts.{has_body, is_body, is_promised, keeps, SupportsItself, IsGreatest, held_in}
+use Rattle.attrib.specs.Deduced.{bit_of, term_of, system_of}
 use Rattle.attrib.proofs.Built.{terms_of_system, system_masks}
 
 -- ---- bit 0 of a term and of what a position is left
@@ -38,18 +38,20 @@ words_at ws q = slice_index ws q
 term_bit : (m : Module) (ws : List ℕ) (c : Call) → (bit_at (meaning (words_at ws) (term_of m c)) 0 == 1) ≡ keeps m (held_in ws) c
 term_bit m ws c =
     elim (is_body m c.callee.0) as (λ v. (bit_at (meaning (words_at ws) (roll-NewTerm (if v then Word (record { 0 = c.callee.0 }) else Const (bit_of (is_promised m c))))) 0 == 1)
-        ≡ (if v then held_in ws c.callee.0 else is_promised m c)) [
-      true ↦ ap (λ x. bit_at x 0 == 1) (fold-roll-NewTerm ℕ (layer_meaning (words_at ws)) (Word (record { 0 = c.callee.0 })))
-    | false ↦ ap (λ x. bit_at x 0 == 1) (fold-roll-NewTerm ℕ (layer_meaning (words_at ws)) (Const (bit_of (is_promised m c)))) ∙ bit_of_test (is_promised m c) ]
+    ≡ (if v then held_in ws c.callee.0 else is_promised m c)) [
+      | true ↦ ap (λ x. bit_at x 0 == 1) (fold-roll-NewTerm ℕ (layer_meaning (words_at ws)) (Word (record { 0 = c.callee.0 })))
+      | false ↦ ap (λ x. bit_at x 0 == 1) (fold-roll-NewTerm ℕ (layer_meaning (words_at ws)) (Const (bit_of (is_promised m c)))) ∙ bit_of_test (is_promised m c)
+    ]
 
 -- what is left of a position has bit 0 exactly where its mask and each of its terms have it
 left_down : (word : ℕ → ℕ) (a : ℕ) (ts : List NewTerm) → bit_at (meet_of word a ts) 0 ≡ 1 → (bit_at a 0 ≡ 1) × AllByRecursion (λ t. bit_at (meaning word t) 0 ≡ 1) ts
 left_down word a [] h = (h, tt)
 left_down word a (t ∷ ts) h =
     let rest = left_down word (bit_and a (meaning word t)) ts h in
-    let both = bit_at_and a (meaning word t) 0 in
-    (omega (arith, rest.0, both, bit_at-lt a 0, bit_at-lt (meaning word t) 0),
-     (omega (arith, rest.0, both, bit_at-lt a 0, bit_at-lt (meaning word t) 0), rest.1))
+    let both = bit_at_and a (meaning word t) 0 in (
+      omega (arith, rest.0, both, bit_at-lt a 0, bit_at-lt (meaning word t) 0),
+      (omega (arith, rest.0, both, bit_at-lt a 0, bit_at-lt (meaning word t) 0), rest.1),
+    )
 
 left_up : (word : ℕ → ℕ) (a : ℕ) (ts : List NewTerm) → bit_at a 0 ≡ 1 → AllByRecursion (λ t. bit_at (meaning word t) 0 ≡ 1) ts → bit_at (meet_of word a ts) 0 ≡ 1
 left_up word a [] h all = h
@@ -87,14 +89,16 @@ facts_support m ws is f h =
     let set = set_bit (slice_index ws f) h in
     let masks : slice_index (system_of m).masks f ≡ bit_of (is_body m f) = ap (λ xs. slice_index xs f) (system_masks m) ∙ mask_at m.funcs f in
     let body : is_body m f ≡ true = mask_bit (is_body m f) (omega (arith, set, is.within f 0 (omega arith), ap (λ x. bit_at x 0) masks)) in
-    let place = func_at m.funcs f body in
-    (body, λ func at'.
-      let within : f < length (system_of m).masks = omega (arith, place.3, ap length (system_masks m), length-map m.funcs (λ g. bit_of (is_some g.body))) in
-      let left : bit_at (value_in (system_of m) f ws) 0 ≡ 1 = omega (arith, set, is.supported f within 0 (omega arith), bit_at-lt (value_in (system_of m) f ws) 0) in
-      let terms = (left_down (words_at ws) (slice_index (system_of m).masks f) (terms_at (system_of m) f) left).1 in
-      let mine : AllByRecursion (λ t. bit_at (meaning (words_at ws) t) 0 ≡ 1) (map (term_of m) (calls_of func)) =
-        subst (AllByRecursion (λ t. bit_at (meaning (words_at ws) t) 0 ≡ 1)) (terms_of_system m f func at') terms in
-      All-from_recursion (λ c. keeps m (held_in ws) c ≡ true) (calls_of func) (calls_down m ws (calls_of func) mine))
+    let place = func_at m.funcs f body in (
+      body,
+      λ func at'.
+          let within : f < length (system_of m).masks = omega (arith, place.3, ap length (system_masks m), length-map m.funcs (λ g. bit_of (is_some g.body))) in
+          let left : bit_at (value_in (system_of m) f ws) 0 ≡ 1 = omega (arith, set, is.supported f within 0 (omega arith), bit_at-lt (value_in (system_of m) f ws) 0) in
+          let terms = (left_down (words_at ws) (slice_index (system_of m).masks f) (terms_at (system_of m) f) left).1 in
+          let mine : AllByRecursion (λ t. bit_at (meaning (words_at ws) t) 0 ≡ 1) (map (term_of m) (calls_of func)) =
+          subst (AllByRecursion (λ t. bit_at (meaning (words_at ws) t) 0 ≡ 1)) (terms_of_system m f func at') terms in
+          All-from_recursion (λ c. keeps m (held_in ws) c ≡ true) (calls_of func) (calls_down m ws (calls_of func) mine),
+    )
 
 -- ---- facts that support themselves are held by words that do
 abbrev words_from : (ℕ → Bool) → ℕ → List Func → List ℕ
@@ -124,9 +128,9 @@ small_words : (held : ℕ → Bool) (i : ℕ) (fs : List Func) → AllByRecursio
 small_words held i [] = tt
 small_words held i (f ∷ fs) = (small (held i), small_words held (i + 1) fs)
   where
-  small : (b : Bool) → bit_of b < 2 ^ 64
-  small true = omega arith
-  small false = omega arith
+    small : (b : Bool) → bit_of b < 2 ^ 64
+    small true = omega arith
+    small false = omega arith
 
 -- a word that is a test lies within a word that has bit 0 where the test holds
 test_within : (b : Bool) (n : ℕ) → (b ≡ true → bit_at n 0 ≡ 1) → IsWithin (bit_of b) n
@@ -140,12 +144,13 @@ module _ (m : Module) (held : ℕ → Bool) (is : SupportsItself m held) where
 
   word_of_fact : (p : ℕ) → slice_index (words_of m held) p ≡ bit_of (held p)
   word_of_fact p = elim (cases_lt p (length m.funcs)) [
-      inl l ↦ word_at held 0 p p m.funcs (omega arith) l
-    | inr past ↦ word_past held 0 p m.funcs past ∙ no_fact (held p) refl past ]
+    | inl l ↦ word_at held 0 p p m.funcs (omega arith) l
+    | inr past ↦ word_past held 0 p m.funcs past ∙ no_fact (held p) refl past
+  ]
     where
-    no_fact : (b : Bool) → held p ≡ b → length m.funcs ≤ p → 0 ≡ bit_of b
-    no_fact true e past = absurd (omega (arith, within_length p e))
-    no_fact false e past = refl
+      no_fact : (b : Bool) → held p ≡ b → length m.funcs ≤ p → 0 ≡ bit_of b
+      no_fact true e past = absurd (omega (arith, within_length p e))
+      no_fact false e past = refl
 
   held_same : (f : ℕ) → held_in (words_of m held) f ≡ held f
   held_same f = ap (λ x. bit_at x 0 == 1) (word_of_fact f) ∙ bit_of_test (held f)
@@ -161,30 +166,30 @@ module _ (m : Module) (held : ℕ → Bool) (is : SupportsItself m held) where
   fact_value p h =
       let place = func_at m.funcs p (is p h).0 in
       let mask : bit_at (slice_index (system_of m).masks p) 0 ≡ 1 =
-        ap (λ x. bit_at x 0) (ap (λ xs. slice_index xs p) (system_masks m) ∙ mask_at m.funcs p ∙ ap bit_of (is p h).0) in
+      ap (λ x. bit_at x 0) (ap (λ xs. slice_index xs p) (system_masks m) ∙ mask_at m.funcs p ∙ ap bit_of (is p h).0) in
       let keep = recursion_from_All (λ c. keeps m held c ≡ true) (calls_of place.0) ((is p h).1 place.0 place.1) in
       left_up (words_at (words_of m held)) (slice_index (system_of m).masks p) (terms_at (system_of m) p) mask
-        (subst (AllByRecursion (λ t. bit_at (meaning (words_at (words_of m held)) t) 0 ≡ 1)) (sym (terms_of_system m p place.0 place.1))
-          (calls_up m (words_of m held) (calls_of place.0) (all_keep (calls_of place.0) keep)))
+      (subst (AllByRecursion (λ t. bit_at (meaning (words_at (words_of m held)) t) 0 ≡ 1)) (sym (terms_of_system m p place.0 place.1))
+      (calls_up m (words_of m held) (calls_of place.0) (all_keep (calls_of place.0) keep)))
 
   pub words_support : rule.IsSelfSupporting (system_of m) (words_of m held)
   words_support = record {
-      long = words_length held 0 m.funcs ∙ sym (ap length (system_masks m) ∙ length-map m.funcs (λ g. bit_of (is_some g.body)));
-      fits = All-from_recursion (λ w. w < 2 ^ 64) (words_of m held) (small_words held 0 m.funcs);
-      within = λ p. subst (λ w. IsWithin w (slice_index (system_of m).masks p)) (sym (word_of_fact p))
+    long = words_length held 0 m.funcs ∙ sym (ap length (system_masks m) ∙ length-map m.funcs (λ g. bit_of (is_some g.body)));
+    fits = All-from_recursion (λ w. w < 2 ^ 64) (words_of m held) (small_words held 0 m.funcs);
+    within = λ p. subst (λ w. IsWithin w (slice_index (system_of m).masks p)) (sym (word_of_fact p))
         (test_within (held p) (slice_index (system_of m).masks p)
-          (λ h. ap (λ x. bit_at x 0) (ap (λ xs. slice_index xs p) (system_masks m) ∙ mask_at m.funcs p ∙ ap bit_of (is p h).0)));
-      supported = λ p l. subst (λ w. IsWithin w (value_in (system_of m) p (words_of m held))) (sym (word_of_fact p))
+        (λ h. ap (λ x. bit_at x 0) (ap (λ xs. slice_index xs p) (system_masks m) ∙ mask_at m.funcs p ∙ ap bit_of (is p h).0)));
+    supported = λ p l. subst (λ w. IsWithin w (value_in (system_of m) p (words_of m held))) (sym (word_of_fact p))
         (test_within (held p) (value_in (system_of m) p (words_of m held)) (fact_value p));
-    }
+  }
 
 -- the greatest words hold the greatest set
 pub greatest_facts : (m : Module) (best : List ℕ) → rule.IsGreatest (system_of m) best → IsGreatest m (held_in best)
 greatest_facts m best g = record {
-      is_one = facts_support m best g.is_one;
-      contains = λ other is f h.
-        let less = g.contains (words_of m other) (words_support m other is) f 0 (omega arith) in
-        let one : bit_at (slice_index (words_of m other) f) 0 ≡ 1 = ap (λ x. bit_at x 0) (word_of_fact m other is f ∙ ap bit_of h) in
-        let bit : bit_at (slice_index best f) 0 ≡ 1 = omega (arith, less, one, bit_at-lt (slice_index best f) 0) in
-        ap (λ x. x == 1) bit;
-    }
+  is_one = facts_support m best g.is_one;
+  contains = λ other is f h.
+      let less = g.contains (words_of m other) (words_support m other is) f 0 (omega arith) in
+      let one : bit_at (slice_index (words_of m other) f) 0 ≡ 1 = ap (λ x. bit_at x 0) (word_of_fact m other is f ∙ ap bit_of h) in
+      let bit : bit_at (slice_index best f) 0 ≡ 1 = omega (arith, less, one, bit_at-lt (slice_index best f) 0) in
+      ap (λ x. x == 1) bit;
+}

@@ -8,7 +8,7 @@ use Rattle.slice_module.specs.declared.module.Func.{Func}
 use Rattle.slice_module.specs.declared.module.Module.{Module}
 use Rattle.slice_module.specs.Module.{calls_of}
 use Rattle.slice_module.proofs.Single.{one_module}
-use Rattle.slice_facts.specs.Facts.{is_body, SupportsItself, IsGreatest}
+use Rattle.slice_facts.specs.Facts.{is_body, IsGreatest}
 use Rattle.slice_facts.specs.Printed.{word_at, header_words, call_words, words_from, insertions_of}
 use Rattle.weave.specs.Woven.{woven_from}
 use Rattle.attrib.specs.Annotated.{IsAnnotated}
@@ -17,11 +17,11 @@ use Rattle.attrib.specs.Annotated.{IsAnnotated}
 one_set : (m : Module) (held other : ℕ → Bool) → IsGreatest m held → IsGreatest m other → (f : ℕ) → held f ≡ other f
 one_set m held other g h f = by (held f) (other f) refl refl
   where
-  by : (a b : Bool) → held f ≡ a → other f ≡ b → a ≡ b
-  by true true e d = refl
-  by false false e d = refl
-  by true false e d = let both = h.contains held g.is_one f e in cc
-  by false true e d = let both = g.contains other h.is_one f d in cc
+    by : (a b : Bool) → held f ≡ a → other f ≡ b → a ≡ b
+    by true true e d = refl
+    by false false e d = refl
+    by true false e d = let both = h.contains held g.is_one f e in cc
+    by false true e d = let both = g.contains other h.is_one f d in cc
 
 module _ (m : Module) (held other : ℕ → Bool) (same : (f : ℕ) → held f ≡ other f) where
   calls_same : (cs : List Call) → flat_map (call_words m held) cs ≡ flat_map (call_words m other) cs

@@ -1,6 +1,5 @@
 -- The masks and terms of a module meet the conditions of a system.
-use Rattle.std.proofs.Common.{◌≡◌, ℕ, ◌^◌, ◌<◌, Bool, true, false, if◌then◌else◌, List, [], ◌∷◌, length, map, All, refl, sym, ap, subst, ◌∙◌, arith}
-use Rattle.std.specs.Prelude.{nat_lt}
+use Rattle.std.proofs.Common.{◌≡◌, ◌^◌, ◌<◌, Bool, true, false, if◌then◌else◌, List, [], ◌∷◌, length, map, All, refl, ◌∙◌, arith}
 use Rattle.std.specs.Option.{is_some}
 use Rattle.std.specs.List.{AllByRecursion}
 use Rattle.std.proofs.lemmas.Bool.{lt-ltb}
@@ -30,8 +29,8 @@ masks_small m = All-from_recursion (λ w. w < 2 ^ 47) (masks_of m) (all_small m.
 pub term_over : (m : Module) (c : Call) → is_over (length m.funcs) (term_of m c) ≡ true
 term_over m c = over (is_body m c.callee.0) refl
   where
-  over : (b : Bool) → is_body m c.callee.0 ≡ b →
-      is_over (length m.funcs) (roll-NewTerm (if b then Word (record { 0 = c.callee.0 }) else Const (bit_of (is_promised m c)))) ≡ true
-  over true is = fold-roll-NewTerm Bool (is_layer_over (length m.funcs)) (Word (record { 0 = c.callee.0 }))
-      ∙ lt-ltb c.callee.0 (length m.funcs) (func_at m.funcs c.callee.0 is).3
-  over false is = fold-roll-NewTerm Bool (is_layer_over (length m.funcs)) (Const (bit_of (is_promised m c)))
+    over : (b : Bool) → is_body m c.callee.0 ≡ b →
+        is_over (length m.funcs) (roll-NewTerm (if b then Word (record { 0 = c.callee.0 }) else Const (bit_of (is_promised m c)))) ≡ true
+    over true is = fold-roll-NewTerm Bool (is_layer_over (length m.funcs)) (Word (record { 0 = c.callee.0 }))
+        ∙ lt-ltb c.callee.0 (length m.funcs) (func_at m.funcs c.callee.0 is).3
+    over false is = fold-roll-NewTerm Bool (is_layer_over (length m.funcs)) (Const (bit_of (is_promised m c)))

@@ -1,7 +1,6 @@
 -- The system of words and terms that a module's facts are the bits of.
 use Rattle.std.specs.Prelude.{ℕ, ◌+◌, Bool, if◌then◌else◌, List, [], ◌∷◌, map}
 use Rattle.std.specs.Option.{is_some}
-use Rattle.attr_ids.specs.declared.ids.PosId.{PosId}
 use Rattle.rule_terms.specs.declared.term.NewTerm.{NewTerm}
 use Rattle.rule_terms.specs.declared.term.NewTerm.TheOpen.NewTerm-F.{Word, Const}
 use Rattle.rule_terms.specs.declared.term.NewTerm.TheViews.{roll-NewTerm}

@@ -94,5 +94,4 @@ pub fn annotate<R: Threads + Sync, G: Gate + Sync>(
 /// A text has at most one annotated text.
 pub fn one_annotation()
     ensures { (b out other : List ℕ) → IsAnnotated b out → IsAnnotated b other → out ≡ other }
-{
-}
+{}

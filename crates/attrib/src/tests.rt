@@ -7,8 +7,12 @@ use std::process::Abort;
 use std::test::Fail;
 use std::thread::Threads;
 
-const LEAF: &[u8] = b"define internal void @leaf() {\n  ret void\n}\ndefine void @top() {\n  call void @leaf()\n  ret void\n}\n";
-const LEAF_ANNOTATED: &[u8] = b"define internal void @leaf() nounwind {\n  ret void\n}\ndefine void @top() nounwind {\n  call void @leaf() nounwind\n  ret void\n}\n";
+const LEAF: &[u8] =
+    b"define internal void @leaf() {\n  ret void\n}\ndefine void @top() {\n  call void @leaf()\n  ret void\n}\n";
+
+const LEAF_ANNOTATED: &[u8] =
+    b"define internal void @leaf() nounwind {\n  ret void\n}\ndefine void @top() nounwind {\n  call void @leaf() nounwind\n  ret void\n}\n";
+
 const OUTSIDE: &[u8] = b"define i32 @f() { ret i32 0 }";
 
 struct OpenGate;
@@ -115,7 +119,8 @@ fn functions_that_call_each_other_get_the_word(rt: HostRuntime) -> Result<(), Fa
 
 #[test]
 fn a_chain_to_an_unknown_function_gets_nothing(rt: HostRuntime) -> Result<(), Fail> {
-    let text = b"define void @a(){call void @b()ret void}define void @b(){call void @c()ret void}define void @c(){call void @x()ret void}declare void @x()";
+    let text =
+        b"define void @a(){call void @b()ret void}define void @b(){call void @c()ret void}define void @c(){call void @x()ret void}declare void @x()";
     prints(&rt, rt.alloc(), text, text)
 }
 
@@ -131,7 +136,13 @@ fn a_promise_counts_and_is_not_repeated(rt: HostRuntime) -> Result<(), Fail> {
 
 #[test]
 fn a_text_outside_the_slice_is_refused(rt: HostRuntime) -> Result<(), Fail> {
-    says(&rt, rt.alloc(), OUTSIDE, Status::Refused, b"attrib: not built yet\n")
+    says(
+        &rt,
+        rt.alloc(),
+        OUTSIDE,
+        Status::Refused,
+        b"attrib: not built yet\n",
+    )
 }
 
 #[test]
@@ -142,7 +153,10 @@ fn words_are_refused(rt: HostRuntime) -> Result<(), Fail> {
     let ran = run_from(&rt, alloc, &words, &mut source, 1 << 10, 1 << 10)?;
     assert_eq!(rt; ran.status, Status::Usage);
     assert!(rt; ran.out.held().is_empty());
-    assert_eq!(rt; ran.errs.held(), b"usage: attrib [--workers N] [--emit module|list|summary|run|why] [--generate N]\n".as_slice());
+    assert_eq!(rt;
+        ran.errs.held(),
+        b"usage: attrib [--workers N] [--emit module|list|summary|run|why] [--generate N]\n".as_slice()
+    );
     Ok(())
 }
 
@@ -152,7 +166,11 @@ fn a_fault_of_reading_at_any_call_is_said(rt: HostRuntime) -> Result<(), Fail> {
     for piece in [1usize, 8, 4096] {
         let calls = LEAF.len().div_ceil(piece) as u64 + 1;
         for call in 1..calls + 1 {
-            let mut source = MemSource::new(Text::from_slice(alloc, LEAF)?, piece, fault_at(alloc, call)?);
+            let mut source = MemSource::new(
+                Text::from_slice(alloc, LEAF)?,
+                piece,
+                fault_at(alloc, call)?,
+            );
             let ran = run_from(&rt, alloc, &[], &mut source, 1 << 10, 1 << 10)?;
             assert_eq!(rt; ran.status, Status::ReadFault);
             assert!(rt; ran.out.held().is_empty());
@@ -189,16 +207,24 @@ fn a_line_that_can_not_be_written_is_a_fault_of_writing(rt: HostRuntime) -> Resu
 fn one_byte_too_many_is_said(rt: HostRuntime) -> Result<(), Fail> {
     let alloc = rt.alloc();
     let blanks = Text::from_vec(vec![in alloc; b' '; MOST_BYTES + 1]?);
-    assert!(rt; matches!(
-        annotate(&rt, alloc, blanks.as_slice(), 1, Emit::Module, &OpenGate),
-        Err(Refusal::TooLarge { which: Limit::Bytes, count: 67_108_865 })
-    ));
+    assert!(rt;
+        matches!(
+            annotate(&rt, alloc, blanks.as_slice(), 1, Emit::Module, &OpenGate),
+            Err(Refusal::TooLarge {
+                which: Limit::Bytes,
+                count: 67_108_865
+            })
+        )
+    );
     let mut source = SureSource::new(blanks);
     let mut out = SureSink::new();
     let mut errs = MemSink::new(room(alloc, 100)?, no_faults(alloc));
     let status = attrib(&rt, alloc, &[], &mut source, &mut out, &mut errs, &OpenGate);
     assert_eq!(rt; status, Status::Refused);
-    assert_eq!(rt; errs.held(), b"attrib: too large: Bytes 67108865\n".as_slice());
+    assert_eq!(rt;
+        errs.held(),
+        b"attrib: too large: Bytes 67108865\n".as_slice()
+    );
     Ok(())
 }
 

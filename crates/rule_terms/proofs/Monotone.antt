@@ -92,8 +92,9 @@ module _ (count : ℕ) (words others : ℕ → ℕ) (less : (q : ℕ) → IsWith
 -- the terms of a position are over the positions
 pub terms-over : (s : System) → IsSystem s → (p : ℕ) → All (λ term. is_over (length s.masks) term ≡ true) (terms_at s p)
 terms-over s is p = elim (cases_lt p (length s.terms)) [
-    inl within ↦ All-get_or (λ terms. All (λ term. is_over (length s.masks) term ≡ true) terms) s.terms p [] within is.over
-  | inr past ↦ rw (get_or_past s.terms p [] past) (All-nil (λ term. is_over (length s.masks) term ≡ true)) ]
+  | inl within ↦ All-get_or (λ terms. All (λ term. is_over (length s.masks) term ≡ true) terms) s.terms p [] within is.over
+  | inr past ↦ rw (get_or_past s.terms p [] past) (All-nil (λ term. is_over (length s.masks) term ≡ true))
+]
 
 -- what is left of a position is monotone in the words
 pub value-within : (s : System) → IsSystem s → (p : ℕ) (words others : ℕ → ℕ) → ((q : ℕ) → IsWithin (words q) (others q)) → IsWithin (value s p words) (value s p others)

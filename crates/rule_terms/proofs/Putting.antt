@@ -36,8 +36,9 @@ goes_on_trans a b c ab bc = record {
 -- one more slot stands behind its parts, too
 pub AreOrdered-push : (slots : List Term) (slot : Term) → AreOrdered slots → IsBehind (length slots) slot → AreOrdered (slots ++ slot ∷ [])
 AreOrdered-push slots slot ordered behind k s e = elim (slice_get-push slots slot k s e) [
-    inl is ↦ ordered k s is
-  | inr last ↦ rw (last.1, last.0) behind ]
+  | inl is ↦ ordered k s is
+  | inr last ↦ rw (last.1, last.0) behind
+]
 
 pub grown_length : {A : Type 0} (xs ys : List A) → IsGrown xs ys → length xs ≤ length ys
 grown_length xs ys (more, e) = omega (arith, length-append xs more, ap length e)
@@ -46,7 +47,7 @@ grown_length xs ys (more, e) = omega (arith, length-append xs more, ap length e)
 pub has_stays : (a b : Pool) (t : NewTerm) (place : ℕ) → Has a t place → GoesOn a b → Has b t place
 has_stays a b t place has on =
     let here : nth (slot_terms b.slots.items) place ≡ nth (slot_terms a.slots.items) place =
-      ap (λ l. nth (slot_terms l) place) on.slots.1 ∙ nth-grown a.slots.items on.slots.0 place has.within in
+    ap (λ l. nth (slot_terms l) place) on.slots.1 ∙ nth-grown a.slots.items on.slots.0 place has.within in
     let longer = grown_length a.slots.items b.slots.items on.slots in
     let more = grown_length a.inputs.items b.inputs.items on.inputs in
     record {
@@ -69,7 +70,7 @@ module _ (a b : Pool) (place : ℕ) where
   has_pushed : (slot : Term) → Pushes a b slot place → (s : Numbered) → slot_term (slot_terms a.slots.items) slot ≡ s → is_numbered (length a.inputs.items) s ≡ true → (t : NewTerm) → named a.inputs.items s ≡ t → Has b t place
   has_pushed slot pushes s said numbered t is =
       let here : nth (slot_terms b.slots.items) place ≡ s =
-        ap (λ l. nth (slot_terms l) place) pushes.slots ∙ ap (λ n. nth (slot_terms (a.slots.items ++ slot ∷ [])) n) pushes.last ∙ nth-pushed a.slots.items slot ∙ said in
+      ap (λ l. nth (slot_terms l) place) pushes.slots ∙ ap (λ n. nth (slot_terms (a.slots.items ++ slot ∷ [])) n) pushes.last ∙ nth-pushed a.slots.items slot ∙ said in
       record {
         within = omega (arith, ap length pushes.slots, length-append a.slots.items (slot ∷ []), pushes.last);
         numbered = rw here (ap (λ l. is_numbered (length l) s) pushes.inputs ∙ numbered);

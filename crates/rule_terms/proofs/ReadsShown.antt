@@ -28,8 +28,9 @@ module _ (inputs : List PosId) (count : ℕ) (stand : AreApart inputs count) (re
       let here = slice_get-get_or inputs n (record { 0 = 0 }) within in
       let there = slice_get-get_or inputs read (record { 0 = 0 }) is_input in
       elim (cases_eq n read) [
-          inl one ↦ eq-eqb (input_at inputs n).0 (input_at inputs read).0 (ap (λ k. (input_at inputs k).0) one) ∙ sym (eq-eqb n read one)
-        | inr two ↦ ne_eqb (input_at inputs n).0 (input_at inputs read).0 (λ same. two (stand.apart n read (input_at inputs n) (input_at inputs read) here there same)) ∙ sym (ne_eqb n read two) ]
+        | inl one ↦ eq-eqb (input_at inputs n).0 (input_at inputs read).0 (ap (λ k. (input_at inputs k).0) one) ∙ sym (eq-eqb n read one)
+        | inr two ↦ ne_eqb (input_at inputs n).0 (input_at inputs read).0 (λ same. two (stand.apart n read (input_at inputs n) (input_at inputs read) here there same)) ∙ sym (ne_eqb n read two)
+      ]
 
   abbrev asked : ℕ
   asked = (input_at inputs read).0

@@ -119,8 +119,8 @@ nth-slot slots place slot ordered is =
     let behind : IsBehind (length front) slot = rw parts.2 (ordered place slot is) in
     let short : length front < length (front ++ slot ∷ []) = omega (arith, length-append front (slot ∷ [])) in
     let first : nth (slot_terms ((front ++ slot ∷ []) ++ back)) (length front) ≡ slot_term (slot_terms ((front ++ slot ∷ []) ++ back)) slot =
-      nth-grown (front ++ slot ∷ []) back (length front) short
-      ∙ nth-pushed front slot
-      ∙ sym (slot_term-grown front (slot ∷ [] ++ back) slot behind)
-      ∙ ap (λ l. slot_term (slot_terms l) slot) (sym (append_assoc front (slot ∷ []) back)) in
+    nth-grown (front ++ slot ∷ []) back (length front) short
+    ∙ nth-pushed front slot
+    ∙ sym (slot_term-grown front (slot ∷ [] ++ back) slot behind)
+    ∙ ap (λ l. slot_term (slot_terms l) slot) (sym (append_assoc front (slot ∷ []) back)) in
     subst (λ k. nth (slot_terms slots) k ≡ slot_term (slot_terms slots) slot) parts.2 (subst (λ l. nth (slot_terms l) (length front) ≡ slot_term (slot_terms l) slot) (sym whole) first)

@@ -1,4 +1,4 @@
-use Rattle.std.proofs.Common.{◌≡◌, ◌≤◌, ◌<◌, ◌^◌, sym, subst, ap, arith, length, All, Err, inl, inr, ℕ, rules}
+use Rattle.std.proofs.Common.{◌≤◌, sym, subst, ap, arith, length, All, Err}
 use Rattle.std.specs.List.Sorted.{IsNonDecreasingBy}
 use Rattle.std.proofs.lemmas.List.{length-map}
 use Rattle.attr_ids.specs.declared.insertion.Insertion.{Insertion}
@@ -7,7 +7,6 @@ use Rattle.slice_module.specs.Module.{entity_of, entities_of, Accepted}
 use Rattle.slice_module.proofs.Single.{at_most}
 use Rattle.slice_facts.specs.Facts.{held_in}
 use Rattle.slice_facts.proofs.Rising.{in_order, within}
-use Rattle.attrib.specs.Annotated.{InSlice}
 use Rattle.attrib.proofs.annotation.annotate.Goals as goal
 
 pub returns-in-Err-Outside-clause-slice : goal.returns-in-Err-Outside-clause-slice
@@ -31,9 +30,9 @@ insertions-requires g c =
 pub weave-requires-clause-rising : goal.weave-requires-clause-rising
 weave-requires-clause-rising g c =
     subst (IsNonDecreasingBy (λ (x : Insertion). x.at)) (sym c.in_ok-insertions.ensures)
-      (in_order (length c.args.text.now) c.in-Ok.module (held_in c.in_ok-words.words) c.in-Ok.ensures.closes)
+    (in_order (length c.args.text.now) c.in-Ok.module (held_in c.in_ok-words.words) c.in-Ok.ensures.closes)
 
 pub weave-requires-clause-within : goal.weave-requires-clause-within
 weave-requires-clause-within g c =
     subst (All (λ (x : Insertion). x.at ≤ length c.args.text.now)) (sym c.in_ok-insertions.ensures)
-      (within (length c.args.text.now) c.in-Ok.module (held_in c.in_ok-words.words) c.in-Ok.ensures.closes)
+    (within (length c.args.text.now) c.in-Ok.module (held_in c.in_ok-words.words) c.in-Ok.ensures.closes)

@@ -1,4 +1,4 @@
-use Rattle.std.proofs.Common.{◌≡◌, bit_and, slice_index, ap, sym, subst, ◌∙◌}
+use Rattle.std.proofs.Common.{◌≡◌, bit_and, slice_index, ap, subst, ◌∙◌}
 use Rattle.lattice_words.specs.Words.{IsWithin}
 use Rattle.rule_terms.specs.System.{value_in}
 use Rattle.rule_terms.proofs.Greatest.{and_within_left, within_refl, within_from_and}
@@ -14,16 +14,16 @@ returns-clause-cut c =
       is_position = c.requires.place;
       written = c.set.ensures;
       less = subst (IsWithin (bit_and (slice_index c.as_slice.result.now c.args.p.0) c.eval_in.result)) old
-        (and_within_left (slice_index c.as_slice.result.now c.args.p.0) c.eval_in.result);
+          (and_within_left (slice_index c.as_slice.result.now c.args.p.0) c.eval_in.result);
       keeps = subst (λ w. IsWithin w (bit_and (slice_index c.as_slice.result.now c.args.p.0) c.eval_in.result))
-        (ap (λ w. bit_and w c.eval_in.result) old ∙ ap (bit_and (slice_index c.args.words.now c.args.p.0)) c.eval_in.ensures)
-        (within_refl (bit_and (slice_index c.as_slice.result.now c.args.p.0) c.eval_in.result));
+          (ap (λ w. bit_and w c.eval_in.result) old ∙ ap (bit_and (slice_index c.args.words.now c.args.p.0)) c.eval_in.ensures)
+          (within_refl (bit_and (slice_index c.as_slice.result.now c.args.p.0) c.eval_in.result));
     }
 
 pub returns-clause-kept : goal.returns-clause-kept
 returns-clause-kept c = λ stays.
     let old : slice_index c.as_slice.result.now c.args.p.0 ≡ slice_index c.args.words.now c.args.p.0 = ap (λ xs. slice_index xs c.args.p.0) c.as_slice.ensures in
     let within = within_from_and (slice_index c.as_slice.result.now c.args.p.0) c.eval_in.result
-        (lost_nothing (slice_index c.as_slice.result.now c.args.p.0) c.eval_in.result stays) in
+    (lost_nothing (slice_index c.as_slice.result.now c.args.p.0) c.eval_in.result stays) in
     subst (λ w. IsWithin w (value_in c.args.system.now c.args.p.0 c.args.words.now)) old
-      (subst (IsWithin (slice_index c.as_slice.result.now c.args.p.0)) c.eval_in.ensures within)
+    (subst (IsWithin (slice_index c.as_slice.result.now c.args.p.0)) c.eval_in.ensures within)

@@ -1,7 +1,6 @@
 use Rattle.std.proofs.Common.{◌≡◌, get_or, false, length, true, ap, sym, subst, ◌∙◌}
 use Rattle.rule_terms.specs.Names.{is_over}
 use Rattle.slice_module.specs.declared.module.Call.{Call}
-use Rattle.attrib.specs.Deduced.{term_of}
 use Rattle.attrib.proofs.Terms.{term_over}
 use Rattle.attrib.proofs.deduce.meet_calls.Goals as goal
 

@@ -1,4 +1,4 @@
-use Rattle.std.proofs.Common.{◌≡◌, map, drop, length}
+use Rattle.std.proofs.Common.{◌≡◌, map, drop}
 use Rattle.attrib.specs.Deduced.{term_of, with_terms}
 use Rattle.attrib.proofs.deduce.meet_calls.Given as goal
 

@@ -1,4 +1,4 @@
-use Rattle.std.proofs.Common.{◌≡◌, drop, length}
+use Rattle.std.proofs.Common.{◌≡◌, drop}
 use Rattle.attrib.specs.Deduced.{masks_of, with_functions, system_of}
 use Rattle.attrib.proofs.deduce.system.Given as goal
 

@@ -29,5 +29,5 @@ returns c =
     let before = (goal.at.returns c).After-as_slice-2 in
     (rw (c.as_slice.ensures, c.deref.ensures.value, c.as_slice-2.ensures) at c.meet.ensures)
     ∙ value-shown c.self.inside c.args.self.now c.args.p.0 c.index-rule.result.now c.self.invariant c.self.view_is (found before)
-      (looked_word (inputs_of c.args.self.now c.args.p.0) c.args.looked.now) (λ n. slice_index c.args.looked.now n)
-      (λ n l. ap (λ l. looked_word l c.args.looked.now (input_at c.index-rule.result.now.inputs n).0) (sym (inputs before)) ∙ looked_word-at c.index-rule.result.now.inputs c.args.looked.now (rule before).apart.apart (one_word_each before) n l)
+    (looked_word (inputs_of c.args.self.now c.args.p.0) c.args.looked.now) (λ n. slice_index c.args.looked.now n)
+    (λ n l. ap (λ l. looked_word l c.args.looked.now (input_at c.index-rule.result.now.inputs n).0) (sym (inputs before)) ∙ looked_word-at c.index-rule.result.now.inputs c.args.looked.now (rule before).apart.apart (one_word_each before) n l)

@@ -29,4 +29,4 @@ returns c =
     let before = (goal.at.returns c).After-as_slice-4 in
     (rw (c.as_slice-2.ensures, c.as_slice-3.ensures, c.as_slice.ensures, c.deref.ensures.value, c.as_slice-4.ensures) at c.meet.ensures)
     ∙ value-shown c.self.inside c.args.self.now c.args.p.0 c.index-rule.result.now c.self.invariant c.self.view_is (found before)
-      (λ q. slice_index c.args.words.now q) (λ n. slice_index c.args.words.now (input_at c.index-rule.result.now.inputs n).0) (λ n l. refl)
+    (λ q. slice_index c.args.words.now q) (λ n. slice_index c.args.words.now (input_at c.index-rule.result.now.inputs n).0) (λ n l. refl)

@@ -46,17 +46,18 @@ over c = subst (λ (s : System). is_over (length s.masks) c.args.term ≡ true) 
 
 pub invariant_of-self : goal.invariant_of-self
 invariant_of-self c = elim (told c.meet_in.result c.meet_in.ensures.met c.meet_in.ensures.err) [
-    inl met ↦ step_kept c.self.inside (after c) c.self.invariant c.args.p.0 c.index_mut.result.now c.meet_in.new.rule (step c) (step_met c.self.inside (after c) c.self.invariant c.args.p.0 c.index_mut.result.now c.meet_in.new.rule (step c) c.args.term met (over c)).0
-  | inr unmet ↦ step_kept c.self.inside (after c) c.self.invariant c.args.p.0 c.index_mut.result.now c.meet_in.new.rule (step c) (step_unmet c.self.inside (after c) c.self.invariant c.args.p.0 c.index_mut.result.now c.meet_in.new.rule (step c) unmet).0 ]
+  | inl met ↦ step_kept c.self.inside (after c) c.self.invariant c.args.p.0 c.index_mut.result.now c.meet_in.new.rule (step c) (step_met c.self.inside (after c) c.self.invariant c.args.p.0 c.index_mut.result.now c.meet_in.new.rule (step c) c.args.term met (over c)).0
+  | inr unmet ↦ step_kept c.self.inside (after c) c.self.invariant c.args.p.0 c.index_mut.result.now c.meet_in.new.rule (step c) (step_unmet c.self.inside (after c) c.self.invariant c.args.p.0 c.index_mut.result.now c.meet_in.new.rule (step c) unmet).0
+]
 
 pub returns-clause-ok : goal.returns-clause-ok
 returns-clause-ok c =
     let here : Met (after c).pool.slots.items c.index_mut.result.now c.meet_in.new.rule c.args.term → shown (after c) ≡ with_term c.args.self.now c.args.p.0 c.args.term =
-      λ met. (step_met c.self.inside (after c) c.self.invariant c.args.p.0 c.index_mut.result.now c.meet_in.new.rule (step c) c.args.term met (over c)).1 ∙ ap (λ (s : System). with_term s c.args.p.0 c.args.term) c.self.view_is in
+    λ met. (step_met c.self.inside (after c) c.self.invariant c.args.p.0 c.index_mut.result.now c.meet_in.new.rule (step c) c.args.term met (over c)).1 ∙ ap (λ (s : System). with_term s c.args.p.0 c.args.term) c.self.view_is in
     on_ok c.meet_in.result here c.meet_in.ensures.met
 
 pub returns-clause-err : goal.returns-clause-err
 returns-clause-err c =
     let here : NotMet c.index_mut.result.now c.meet_in.new.rule → shown (after c) ≡ c.args.self.now =
-      λ unmet. (step_unmet c.self.inside (after c) c.self.invariant c.args.p.0 c.index_mut.result.now c.meet_in.new.rule (step c) unmet).1 ∙ c.self.view_is in
+    λ unmet. (step_unmet c.self.inside (after c) c.self.invariant c.args.p.0 c.index_mut.result.now c.meet_in.new.rule (step c) unmet).1 ∙ c.self.view_is in
     on_err c.meet_in.result here c.meet_in.ensures.err
