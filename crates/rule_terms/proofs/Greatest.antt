@@ -1,8 +1,7 @@
 -- The greatest list of words that supports itself: there is no other, and cuts from the masks lead to it.
-use Rattle.std.proofs.Common.{◌≡◌, ◌≢◌, ℕ, zero, suc, ◌+◌, ◌^◌, ◌<◌, ◌≤◌, ◌⊎◌, List, [], ◌∷◌, length, length-set, get_or, set, slice_index, All, bit_and, refl, ap, sym, ◌∙◌, subst, arith, inl, inr, get_or-set_same, get_or-set_other}
+use Rattle.std.proofs.Common.{◌≡◌, ℕ, zero, suc, ◌^◌, ◌<◌, List, [], ◌∷◌, length, length-set, slice_index, All, bit_and, refl, ap, sym, ◌∙◌, arith, inl, inr, get_or-set_same, get_or-set_other}
 use Rattle.std.specs.Int.{bit_at}
-use Rattle.std.proofs.lemmas.Bool.{cases_eq, cases_lt}
-use Rattle.std.proofs.lemmas.List.{get_or_past}
+use Rattle.std.proofs.lemmas.Bool.{cases_eq}
 use Rattle.std.proofs.lemmas.List.Elements.{All-get_or}
 use Rattle.std.proofs.lemmas.Nat.Bits.{bit_at_and, same_from_bits_below}
 use Rattle.lattice_words.specs.Words.{IsWithin}
@@ -66,12 +65,13 @@ module _ (s : System) where
     -- a cut stays above every self-supporting list
     pub cut_above : (old new : List ℕ) → length old ≡ length s.masks → IsCut s old new → IsAbove s old → IsAbove s new
     cut_above old new long cut above others is q = elim (cases_eq q cut.place) [
-        inl here ↦ rw (cut.written, here, get_or-set_same old cut.place cut.word 0 (omega (arith, cut.is_position)))
+      | inl here ↦ rw (cut.written, here, get_or-set_same old cut.place cut.word 0 (omega (arith, cut.is_position)))
           (within_trans (slice_index others cut.place) (bit_and (slice_index old cut.place) (value_in s cut.place old)) cut.word
-           (within_and (slice_index others cut.place) (slice_index old cut.place) (value_in s cut.place old) (above others is cut.place)
-            (within_trans (slice_index others cut.place) (value_in s cut.place others) (value_in s cut.place old) (is.supported cut.place cut.is_position) (value_in-within s is_system cut.place others old (above others is))))
-           cut.keeps)
-      | inr other ↦ rw (cut.written, get_or-set_other old cut.place q cut.word 0 other) (above others is q) ]
+          (within_and (slice_index others cut.place) (slice_index old cut.place) (value_in s cut.place old) (above others is cut.place)
+          (within_trans (slice_index others cut.place) (value_in s cut.place others) (value_in s cut.place old) (is.supported cut.place cut.is_position) (value_in-within s is_system cut.place others old (above others is))))
+          cut.keeps)
+      | inr other ↦ rw (cut.written, get_or-set_other old cut.place q cut.word 0 other) (above others is q)
+    ]
 
     -- a run of cuts from the masks stays above every self-supporting list, and within the masks
     pub reached_long : (words : List ℕ) → IsReached s words → length words ≡ length s.masks
@@ -85,9 +85,10 @@ module _ (s : System) where
     pub reached_within : (words : List ℕ) → IsReached s words → AreWithin words s.masks
     reached_within _ from_masks p = within_refl (slice_index s.masks p)
     reached_within words (then_cut {old = old} {new = new} run cut) p = elim (cases_eq p cut.place) [
-        inl here ↦ rw (cut.written, here, get_or-set_same old cut.place cut.word 0 (omega (arith, cut.is_position, reached_long old run)))
+      | inl here ↦ rw (cut.written, here, get_or-set_same old cut.place cut.word 0 (omega (arith, cut.is_position, reached_long old run)))
           (within_trans cut.word (slice_index old cut.place) (slice_index s.masks cut.place) cut.less (reached_within old run cut.place))
-      | inr other ↦ rw (cut.written, get_or-set_other old cut.place p cut.word 0 other) (reached_within old run p) ]
+      | inr other ↦ rw (cut.written, get_or-set_other old cut.place p cut.word 0 other) (reached_within old run p)
+    ]
 
     -- a run of cuts that came to an end is at the greatest list
     pub reached_greatest : (words : List ℕ) → IsReached s words → All (λ w. w < 2 ^ 64) words → Supports s words → IsGreatest s words

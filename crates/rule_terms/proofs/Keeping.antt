@@ -1,14 +1,12 @@
 -- What a system keeps, and what it shows, as terms are met in.
-use Rattle.std.proofs.Common.{◌≡◌, ◌≢◌, ◌⊎◌, Bool, false, cond, ℕ, zero, suc, ◌+◌, ◌<◌, true, List, [], ◌∷◌, ◌++◌, length, length-set, map, get_or, set, slice_get, Option, Some, Result, Ok, Err, OnOk, OnErr, option_map, refl, ap, sym, ◌∙◌, subst, arith, All, inl, inr, get_or-set_same, get_or-set_other, length-append, append-nil, replicate, ◌^◌}
-use Rattle.std.specs.List.{flat_map, fold}
-use Rattle.std.proofs.lemmas.Bool.{cases_eq}
+use Rattle.std.proofs.Common.{◌≡◌, ◌≢◌, ◌⊎◌, Bool, false, cond, ℕ, zero, suc, ◌+◌, ◌<◌, true, List, [], ◌∷◌, ◌++◌, length, length-set, map, get_or, set, slice_get, Some, Result, Ok, Err, OnOk, OnErr, option_map, refl, ap, sym, ◌∙◌, subst, arith, All, inl, inr, length-append, append-nil, replicate, ◌^◌}
+use Rattle.std.specs.List.{flat_map}
 use Rattle.std.proofs.lemmas.List.{length-map, map-append, map-set}
 use Rattle.std.proofs.lemmas.List.Concat.{flat_map-append}
 use Rattle.std.proofs.lemmas.List.Sums.{fold-append}
 use Rattle.std.proofs.lemmas.List.Elements.{All-map, All-nil, All-push}
 use Rattle.std.proofs.lemmas.Option.{slice_get-get_or, slice_get_read, slice_get-map, get_or_from_slice_get, same_Some, none-some, slice_get_within}
 use Rattle.attr_ids.specs.declared.ids.PosId.{PosId}
-use Rattle.rule_terms.specs.declared.pool.Pool.{Pool}
 use Rattle.rule_terms.specs.declared.rule.Rule.{Rule}
 use Rattle.rule_terms.specs.declared.system.System.TheInside.{Inside}
 use Rattle.rule_terms.specs.declared.term.NewTerm.{NewTerm}
@@ -31,7 +29,7 @@ kept_system a kept = record {
   long = length-map a.rules.items (met_terms a.pool.slots.items) ∙ kept.long;
   facts = kept.facts;
   over = All-map (λ terms. All (λ term. is_over (length a.masks) term ≡ true) terms) (met_terms a.pool.slots.items) a.rules.items
-    (λ k d l. (kept.rules k (get_or a.rules.items k d) (slice_get-get_or a.rules.items k d l)).over);
+      (λ k d l. (kept.rules k (get_or a.rules.items k d) (slice_get-get_or a.rules.items k d l)).over);
 }
 
 -- two functions that agree on a list's elements give the same list
@@ -46,8 +44,9 @@ slice_get-set (z ∷ zs) zero y zero x e = inl (refl, sym (same_Some y x e))
 slice_get-set (z ∷ zs) zero y (suc k) x e = inr (omega arith, e)
 slice_get-set (z ∷ zs) (suc i) y zero x e = inr (omega arith, e)
 slice_get-set (z ∷ zs) (suc i) y (suc k) x e = elim (slice_get-set zs i y k x e) [
-    inl here ↦ inl (ap suc here.0, here.1)
-  | inr there ↦ inr (omega (arith, there.0), there.1) ]
+  | inl here ↦ inl (ap suc here.0, here.1)
+  | inr there ↦ inr (omega (arith, there.0), there.1)
+]
 
 module _ (slots more : List Term) (grown : IsGrown slots more) where
   same_slot : (place : ℕ) → place < length slots → nth (slot_terms more) place ≡ nth (slot_terms slots) place
@@ -110,14 +109,15 @@ module _ (count : ℕ) (slots more : List Term) (grown : IsGrown slots more) whe
   unfolding met_terms
   not_met old new unmet is =
       let stays = rule_stays old is in
-      let same : met_terms more new ≡ met_terms more old = rw (unmet.inputs, unmet.places) refl in
-      (same ∙ met_terms-stay old is,
-       record {
-         places = λ k place e. rw unmet.inputs (stays.places k place (rw unmet.places at e));
-         inputs = unmet.inputs ∙ stays.inputs ∙ ap (λ terms. with_names [] (flat_map names_of terms)) (sym same);
-         apart = rw unmet.inputs stays.apart;
-         over = rw same stays.over;
-       })
+      let same : met_terms more new ≡ met_terms more old = rw (unmet.inputs, unmet.places) refl in (
+        same ∙ met_terms-stay old is,
+        record {
+          places = λ k place e. rw unmet.inputs (stays.places k place (rw unmet.places at e));
+          inputs = unmet.inputs ∙ stays.inputs ∙ ap (λ terms. with_names [] (flat_map names_of terms)) (sym same);
+          apart = rw unmet.inputs stays.apart;
+          over = rw same stays.over;
+        },
+      )
 
   -- a rule that a term was met into shows it behind the others
   pub met_one : (old new : Rule) (term : NewTerm) → Met more old new term → IsRule count slots old → AreApart new.inputs count → is_over count term ≡ true →
@@ -126,25 +126,29 @@ module _ (count : ℕ) (slots more : List Term) (grown : IsGrown slots more) whe
   met_one old new term met is new_apart over =
       let widened : IsGrown old.inputs new.inputs = subst (IsGrown old.inputs) (sym met.names) (with_names-grown old.inputs (names_of term)) in
       let same : met_terms more new ≡ met_terms slots old ++ term ∷ [] =
-        ap (map (term_at more new.inputs)) met.pushed
-        ∙ map-append (term_at more new.inputs) old.places.items (met.place ∷ [])
-        ∙ ap (λ l. l ++ term_at more new.inputs met.place ∷ []) (terms_stay slots more grown count old is new.inputs widened)
-        ∙ ap (λ t. met_terms slots old ++ t ∷ []) met.is in
-      (same, record {
-        places = λ k place e. elim (slice_get-push old.places.items met.place k place (rw met.pushed at e)) [
-            inl there ↦ readable_stays slots more grown old.inputs new.inputs widened place.0 (is.places k place there)
-          | inr last ↦ rw last.1 met.readable ];
-        inputs = more_inputs old.inputs new.inputs (met_terms slots old) term is.inputs met.names ∙ ap (λ terms. with_names [] (flat_map names_of terms)) (sym same);
-        apart = new_apart;
-        over = rw same (All-push (λ t. is_over count t ≡ true) (met_terms slots old) term is.over over);
-      })
+      ap (map (term_at more new.inputs)) met.pushed
+      ∙ map-append (term_at more new.inputs) old.places.items (met.place ∷ [])
+      ∙ ap (λ l. l ++ term_at more new.inputs met.place ∷ []) (terms_stay slots more grown count old is new.inputs widened)
+      ∙ ap (λ t. met_terms slots old ++ t ∷ []) met.is in (
+        same,
+        record {
+          places = λ k place e. elim (slice_get-push old.places.items met.place k place (rw met.pushed at e)) [
+            | inl there ↦ readable_stays slots more grown old.inputs new.inputs widened place.0 (is.places k place there)
+            | inr last ↦ rw last.1 met.readable
+          ];
+          inputs = more_inputs old.inputs new.inputs (met_terms slots old) term is.inputs met.names ∙ ap (λ terms. with_names [] (flat_map names_of terms)) (sym same);
+          apart = new_apart;
+          over = rw same (All-push (λ t. is_over count t ≡ true) (met_terms slots old) term is.over over);
+        },
+      )
 
   -- all rules after one of them was written
   module _ (rules : List Rule) (are : AreRules count slots rules) (p : ℕ) (new : Rule) where
     pub rules_after : IsRule count more new → AreRules count more (set rules p new)
     rules_after is k rule e = elim (slice_get-set rules p new k rule e) [
-        inl here ↦ rw here.1 is
-      | inr there ↦ rule_stays rule (are k rule there.1) ]
+      | inl here ↦ rw here.1 is
+      | inr there ↦ rule_stays rule (are k rule there.1)
+    ]
 
     pub shown_after : (terms : List NewTerm) → met_terms more new ≡ terms → map (met_terms more) (set rules p new) ≡ set (map (met_terms slots) rules) p terms
     shown_after terms is =
@@ -189,15 +193,16 @@ module _ (a b : Inside) (kept : IsKept a) (p : ℕ) (old new : Rule) (step : IsS
   } where
     at_place : (rule : Rule) → slice_get (set a.rules.items p new) p ≡ Some rule → IsMarked rule.inputs b.pool.marks.items
     at_place rule e = elim (slice_get-set a.rules.items p new p rule e) [
-        inl here ↦ rw here.1 step.marked
-      | inr there ↦ absurd (there.0 refl) ]
+      | inl here ↦ rw here.1 step.marked
+      | inr there ↦ absurd (there.0 refl)
+    ]
 
   pub step_unmet : NotMet old new → IsRule (length a.masks) b.pool.slots.items new × (shown b ≡ shown a)
   step_unmet unmet =
       let both = not_met (length a.masks) a.pool.slots.items b.pool.slots.items step.grown old new unmet (kept.rules p old step.found) in
       let terms = shown_after (length a.masks) a.pool.slots.items b.pool.slots.items step.grown a.rules.items kept.rules p new (met_terms a.pool.slots.items old) both.0 in
       let same : set (map (met_terms a.pool.slots.items) a.rules.items) p (met_terms a.pool.slots.items old) ≡ map (met_terms a.pool.slots.items) a.rules.items =
-        set_same (map (met_terms a.pool.slots.items) a.rules.items) p (met_terms a.pool.slots.items old) (found_terms a p old step.found) in
+      set_same (map (met_terms a.pool.slots.items) a.rules.items) p (met_terms a.pool.slots.items old) (found_terms a p old step.found) in
       (both.1, same_shown b (shown a) step.masks (ap (map (met_terms b.pool.slots.items)) step.rules ∙ terms ∙ same))
 
   pub step_met : (term : NewTerm) → Met b.pool.slots.items old new term → is_over (length a.masks) term ≡ true → IsRule (length a.masks) b.pool.slots.items new × (shown b ≡ with_term (shown a) p term)

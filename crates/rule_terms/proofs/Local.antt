@@ -1,13 +1,13 @@
 -- A value goes by the bits that are read alone.
-use Rattle.std.proofs.Common.{◌≡◌, ◌≢◌, ◌⊎◌, ℕ, zero, suc, ◌+◌, ◌-◌, ◌^◌, ◌<◌, ◌≤◌, min, max, Bool, true, false, cond, eqb, eq-eqb, eqb-true, ◌&&◌, nat_lt, List, [], ◌∷◌, length, get_or, slice_index, All, bit_and, bit_or, refl, ap, sym, ◌∙◌, subst, arith, inl, inr}
+use Rattle.std.proofs.Common.{◌≡◌, ℕ, zero, suc, ◌^◌, ◌<◌, Bool, true, false, cond, eqb, eq-eqb, eqb-true, ◌&&◌, nat_lt, List, [], ◌∷◌, length, slice_index, All, bit_and, bit_or, refl, ap, sym, ◌∙◌, subst, arith, inl, inr}
 use Rattle.std.specs.List.{fold}
 use Rattle.std.specs.Int.{bit_at}
-use Rattle.std.proofs.lemmas.Bool.{and_parts, and_from, ltb-true, leb-true, le-leb, cond-true, cond-false, cases_Bool, cases_eq, cases_lt}
+use Rattle.std.proofs.lemmas.Bool.{and_parts, and_from, ltb-true, leb-true, le-leb, cond-true, cases_Bool, cases_eq, cases_lt}
 use Rattle.std.proofs.lemmas.List.Elements.{All-head, All-tail, All-get_or}
 use Rattle.std.proofs.lemmas.List.{get_or_past}
 use Rattle.std.proofs.lemmas.Nat.{and_le_l}
 use Rattle.std.proofs.lemmas.Nat.Bits.{bit_at_and, bit_at_or, bit_at-lt, bit_at-zero, bit_at-pow_same, bit_at_mask_inside, bit_at_mask_below, bit_at_mask_above, same_from_bits_below}
-use Rattle.lattice_words.specs.Ladders.{shift_of, keep_align_of, is_byte_bit}
+use Rattle.lattice_words.specs.Ladders.{shift_of, is_byte_bit}
 use Rattle.lattice_words.specs.declared.value.TheConstants.{ALL_BYTES}
 use Rattle.lattice_words.proofs.LadderBits.{bit_at-shift_of-other}
 use Rattle.lattice_words.proofs.Locality.{same_after_shift, same_after_step}
@@ -48,10 +48,12 @@ byte_bit i is =
 
 bit_byte : (i : ℕ) → bit_at ALL_BYTES i ≡ 1 → is_byte_bit i ≡ true
 bit_byte i is = elim (cases_lt i 23) [
-    inl low ↦ absurd (omega (arith, is, bit_at_mask_below 23 39 i low))
+  | inl low ↦ absurd (omega (arith, is, bit_at_mask_below 23 39 i low))
   | inr above ↦ elim (cases_lt i 39) [
-        inl inside ↦ and_from _ _ (le-leb 23 i above) (le-leb i 38 (omega arith))
-      | inr high ↦ absurd (omega (arith, is, bit_at_mask_above 23 39 i high)) ] ]
+    | inl inside ↦ and_from _ _ (le-leb 23 i above) (le-leb i 38 (omega arith))
+    | inr high ↦ absurd (omega (arith, is, bit_at_mask_above 23 39 i high))
+  ]
+]
 
 -- the wanted bits are among those with the rungs
 wanted_among : (wanted i : ℕ) → bit_at wanted i ≡ 1 → bit_at (with_byte_bits wanted) i ≡ 1
@@ -71,8 +73,9 @@ rungs_among wanted i j is rung other = by_case (eqb (bit_and wanted ALL_BYTES) 0
 
 shift_agrees : (bytes wanted x y : ℕ) → AgreeOn (with_byte_bits wanted) x y → AgreeOn wanted (shift_of bytes x) (shift_of bytes y)
 shift_agrees bytes wanted x y h i l is = elim (cases_Bool (is_byte_bit i)) [
-    inl rung ↦ same_after_shift bytes x y (λ j m on. h j m (rungs_among wanted i j is rung on)) i l rung
-  | inr other ↦ bit_at-shift_of-other bytes x i l other ∙ h i l (wanted_among wanted i is) ∙ sym (bit_at-shift_of-other bytes y i l other) ]
+  | inl rung ↦ same_after_shift bytes x y (λ j m on. h j m (rungs_among wanted i j is rung on)) i l rung
+  | inr other ↦ bit_at-shift_of-other bytes x i l other ∙ h i l (wanted_among wanted i is) ∙ sym (bit_at-shift_of-other bytes y i l other)
+]
 
 same_test : (x y bit : ℕ) → bit_at x bit ≡ bit_at y bit → eqb (bit_at x bit) 1 ≡ eqb (bit_at y bit) 1
 same_test x y bit e = ap (λ b. eqb b 1) e
@@ -88,11 +91,11 @@ module _ (count : ℕ) (words others : ℕ → ℕ) where
 
   local_layer : (x : NewTerm-F NewTerm) →
       (is_layer_over count (map-NewTerm NewTerm Bool (is_over count) x) ≡ true → (wanted : ℕ) → ((q : ℕ) → AgreeOn (layer_reads q (map-NewTerm NewTerm (ℕ → ℕ) (reads_of q) x) wanted) (words q) (others q)) →
-       AgreeOn wanted (layer_meaning words (map-NewTerm NewTerm ℕ (meaning words) x)) (layer_meaning others (map-NewTerm NewTerm ℕ (meaning others) x))) → IsLocalAt (roll-NewTerm x)
+      AgreeOn wanted (layer_meaning words (map-NewTerm NewTerm ℕ (meaning words) x)) (layer_meaning others (map-NewTerm NewTerm ℕ (meaning others) x))) → IsLocalAt (roll-NewTerm x)
   local_layer x h over wanted agree i l is =
       ap (λ w. bit_at w i) (fold-roll-NewTerm ℕ (layer_meaning words) x)
       ∙ h (sym (fold-roll-NewTerm Bool (is_layer_over count) x) ∙ over) wanted
-        (λ q. agree_same (reads_of q (roll-NewTerm x) wanted) (layer_reads q (map-NewTerm NewTerm (ℕ → ℕ) (reads_of q) x) wanted) (words q) (others q) (ap (λ f. f wanted) (fold-roll-NewTerm (ℕ → ℕ) (layer_reads q) x)) (agree q)) i l is
+      (λ q. agree_same (reads_of q (roll-NewTerm x) wanted) (layer_reads q (map-NewTerm NewTerm (ℕ → ℕ) (reads_of q) x) wanted) (words q) (others q) (ap (λ f. f wanted) (fold-roll-NewTerm (ℕ → ℕ) (layer_reads q) x)) (agree q)) i l is
       ∙ ap (λ w. bit_at w i) (sym (fold-roll-NewTerm ℕ (layer_meaning others) x))
 
   layers : (y : NewTerm-F ((t : NewTerm) × IsLocalAt t)) → IsLocalAt (roll-NewTerm (map-NewTerm ((t : NewTerm) × IsLocalAt t) NewTerm (λ e. e.0) y))
@@ -116,7 +119,7 @@ module _ (count : ℕ) (words others : ℕ → ℕ) where
       let one : bit_at (words input.0) bit ≡ bit_at (others input.0) bit = agree input.0 bit small (or_left (cond (eqb input.0 input.0) (2 ^ bit) 0) (reads_of input.0 then'.0 wanted) bit tested) in
       let part : AgreeOn wanted (meaning words then'.0) (meaning others then'.0) = then'.1 outer.1 wanted (λ q. agree_right (cond (eqb input.0 q) (2 ^ bit) 0) (reads_of q then'.0 wanted) (words q) (others q) (agree q)) in
       subst (λ b. AgreeOn wanted (cond (eqb (bit_at (words input.0) bit) 1) all_ones (meaning words then'.0)) (cond b all_ones (meaning others then'.0)))
-        (same_test (words input.0) (others input.0) bit one) (cond_agrees (eqb (bit_at (words input.0) bit) 1) wanted all_ones (meaning words then'.0) (meaning others then'.0) part))
+      (same_test (words input.0) (others input.0) bit one) (cond_agrees (eqb (bit_at (words input.0) bit) 1) wanted all_ones (meaning words then'.0) (meaning others then'.0) part))
   layers (Shift bytes of) = local_layer (Shift bytes of.0) (λ over wanted agree.
       shift_agrees bytes wanted (meaning words of.0) (meaning others of.0) (of.1 over (with_byte_bits wanted) agree))
   layers (KeepAlign step of) = local_layer (KeepAlign step of.0) (λ over wanted agree i l is.
@@ -142,8 +145,8 @@ module _ (count : ℕ) (words others : ℕ → ℕ) where
   meet-agrees (term ∷ terms) over wanted starts agree a b h =
       let more : ℕ → ℕ = λ q. bit_or (starts q) (reads_of q term wanted) in
       let here : AgreeOn wanted (meaning words term) (meaning others term) =
-        meaning-agrees term (All-head (λ t. is_over count t ≡ true) term terms over) wanted
-        (λ q. agree_right (starts q) (reads_of q term wanted) (words q) (others q) (reads_start q wanted (more q) terms (agree q))) in
+      meaning-agrees term (All-head (λ t. is_over count t ≡ true) term terms over) wanted
+      (λ q. agree_right (starts q) (reads_of q term wanted) (words q) (others q) (reads_start q wanted (more q) terms (agree q))) in
       meet-agrees terms (All-tail (λ t. is_over count t ≡ true) term terms over) wanted more agree (bit_and a (meaning words term)) (bit_and b (meaning others term))
       (λ i l is. bit_at_and a (meaning words term) i ∙ rw (h i l is, here i l is) (sym (bit_at_and b (meaning others term) i)))
 
@@ -161,22 +164,24 @@ looked_agrees (p ∷ ps) [] b reads long same agree q = absurd (omega arith)
 looked_agrees (p ∷ ps) (v ∷ vs) [] reads long same agree q = absurd (omega arith)
 looked_agrees (p ∷ ps) (v ∷ vs) (w ∷ ws) reads long same agree q =
     by_case (eqb p.0 q) refl (looked_agrees ps vs ws reads (omega arith) (omega arith) (λ i l. agree (suc i) (omega arith)) q) where
-  by_case : (b : Bool) → eqb p.0 q ≡ b → AgreeOn (reads q) (looked_word ps vs q) (looked_word ps ws q) → AgreeOn (reads q) (cond b v (looked_word ps vs q)) (cond b w (looked_word ps ws q))
-  by_case true e rest = subst (λ n. AgreeOn (reads n) v w) (eqb-true p.0 q e) (agree zero (omega arith))
-  by_case false e rest = rest
+      by_case : (b : Bool) → eqb p.0 q ≡ b → AgreeOn (reads q) (looked_word ps vs q) (looked_word ps ws q) → AgreeOn (reads q) (cond b v (looked_word ps vs q)) (cond b w (looked_word ps ws q))
+      by_case true e rest = subst (λ n. AgreeOn (reads n) v w) (eqb-true p.0 q e) (agree zero (omega arith))
+      by_case false e rest = rest
 
 -- words that agree on a mask are equal when cut to it
 cut_same : (mask x y : ℕ) → mask < 2 ^ 64 → AgreeOn mask x y → bit_and mask x ≡ bit_and mask y
 cut_same mask x y small agree =
     same_from_bits_below 64 (bit_and mask x) (bit_and mask y) (omega (arith, and_le_l mask x)) (omega (arith, and_le_l mask y))
     (λ i l. elim (cases_eq (bit_at mask i) 1) [
-        inl set ↦ omega (arith, bit_at_and mask x i, bit_at_and mask y i, agree i l set)
-      | inr unset ↦ omega (arith, bit_at_and mask x i, bit_at_and mask y i, bit_at-lt mask i) ])
+      | inl set ↦ omega (arith, bit_at_and mask x i, bit_at_and mask y i, agree i l set)
+      | inr unset ↦ omega (arith, bit_at_and mask x i, bit_at_and mask y i, bit_at-lt mask i)
+    ])
 
 mask_fits : (s : System) → IsSystem s → (p : ℕ) → slice_index s.masks p < 2 ^ 64
 mask_fits s is p = elim (cases_lt p (length s.masks)) [
-    inl within ↦ omega (arith, All-get_or (λ mask. mask < 2 ^ 47) s.masks p 0 within is.facts)
-  | inr past ↦ omega (arith, get_or_past s.masks p 0 past) ]
+  | inl within ↦ omega (arith, All-get_or (λ mask. mask < 2 ^ 47) s.masks p 0 within is.facts)
+  | inr past ↦ omega (arith, get_or_past s.masks p 0 past)
+]
 
 pub value_at-agrees : (s : System) → IsSystem s → (p : ℕ) (a b : List ℕ) → length a ≡ length (inputs_of s p) → length b ≡ length (inputs_of s p) →
     ((i : ℕ) → i < length (inputs_of s p) → AgreeOn (reads_at s p i) (slice_index a i) (slice_index b i)) →

@@ -1,9 +1,8 @@
 -- The inputs of a position: each position that its terms name, once, and a value goes by their words alone.
-use Rattle.std.proofs.Common.{◌≡◌, ◌≢◌, ◌⊎◌, ℕ, zero, suc, ◌+◌, ◌^◌, ◌<◌, Bool, true, false, cond, eqb, eq-eqb, eqb-true, ◌&&◌, ◌||◌, nat_lt, List, [], ◌∷◌, ◌++◌, length, map, get_or, slice_get, slice_index, All, Some, bit_and, bit_or, refl, ap, sym, ◌∙◌, subst, arith, inl, inr}
-use Rattle.std.specs.List.{fold, flat_map, list_any}
+use Rattle.std.proofs.Common.{◌≡◌, ◌⊎◌, ℕ, Bool, true, false, cond, eqb, eq-eqb, eqb-true, ◌||◌, List, [], ◌∷◌, ◌++◌, map, slice_get, slice_index, Some, bit_and, refl, ap, sym, ◌∙◌, subst, inl, inr}
+use Rattle.std.specs.List.{flat_map}
 use Rattle.std.specs.Int.{bit_at}
-use Rattle.std.proofs.lemmas.Bool.{and_parts, or_cases, or_left, or_right, cases_Bool, both_ways, ltb-true}
-use Rattle.std.proofs.lemmas.List.Elements.{All-head, All-tail}
+use Rattle.std.proofs.lemmas.Bool.{or_cases, or_left, or_right, both_ways}
 use Rattle.std.proofs.lemmas.List.Folds.{list_any-append}
 use Rattle.lattice_words.specs.Ladders.{shift_of, keep_align_of}
 use Rattle.attr_ids.specs.declared.ids.PosId.{PosId}
@@ -13,11 +12,10 @@ use Rattle.rule_terms.specs.declared.term.NewTerm.TheOpen.NewTerm-F.{Const, Word
 use Rattle.rule_terms.specs.declared.term.NewTerm.TheViews.{roll-NewTerm}
 use Rattle.rule_terms.specs.declared.term.NewTerm.TheFolds.{fold-roll-NewTerm, ind-NewTerm, map-NewTerm}
 use Rattle.rule_terms.specs.Meaning.{all_ones, layer_meaning, meaning, meet_of}
-use Rattle.rule_terms.specs.Names.{names_of, layer_names, has_name, with_name, with_names, is_over, is_layer_over}
+use Rattle.rule_terms.specs.Names.{names_of, layer_names, has_name, with_name, with_names}
 use Rattle.std.proofs.lemmas.Option.{none-some}
-use Rattle.rule_terms.specs.System.{System, IsSystem, terms_at, value, value_in, value_at, inputs_of, looked_word}
+use Rattle.rule_terms.specs.System.{System, terms_at, value_in, value_at, inputs_of, looked_word}
 use Rattle.rule_terms.proofs.Marked.{slice_get-push, has_name-at, same_position}
-use Rattle.rule_terms.proofs.Monotone.{terms-over}
 
 -- ---- lists of names
 -- a name of a list with more is a name of the list or of the more
@@ -43,8 +41,9 @@ with_name-only names p q = by_case (has_name names p) where
   by_case : (b : Bool) → has_name (cond b names (names ++ p ∷ [])) q ≡ true → (has_name names q ≡ true) ⊎ (q.0 ≡ p.0)
   by_case true is = inl is
   by_case false is = elim (or_cases (has_name names q) (has_name (p ∷ []) q) (sym (has_name-append names (p ∷ []) q) ∙ is)) [
-      inl there ↦ inl there
-    | inr last ↦ elim (or_cases (eqb q.0 p.0) false last) [ inl one ↦ inr (eqb-true q.0 p.0 one) | inr none ↦ cc ] ]
+    | inl there ↦ inl there
+    | inr last ↦ elim (or_cases (eqb q.0 p.0) false last) [ inl one ↦ inr (eqb-true q.0 p.0 one) | inr none ↦ cc ]
+  ]
 
 pub with_names-keeps : (names more : List PosId) (q : PosId) → has_name names q ≡ true → has_name (with_names names more) q ≡ true
 with_names-keeps names [] q is = is
@@ -53,16 +52,19 @@ with_names-keeps names (p ∷ ps) q is = with_names-keeps (with_name names p) ps
 pub with_names-has : (names more : List PosId) (q : PosId) → has_name more q ≡ true → has_name (with_names names more) q ≡ true
 with_names-has names [] q is = cc
 with_names-has names (p ∷ ps) q is = elim (or_cases (eqb q.0 p.0) (has_name ps q) is) [
-    inl one ↦ with_names-keeps (with_name names p) ps q (subst (λ r. has_name (with_name names p) r ≡ true) (same_position p q (sym (eqb-true q.0 p.0 one))) (with_name-has names p))
-  | inr later ↦ with_names-has (with_name names p) ps q later ]
+  | inl one ↦ with_names-keeps (with_name names p) ps q (subst (λ r. has_name (with_name names p) r ≡ true) (same_position p q (sym (eqb-true q.0 p.0 one))) (with_name-has names p))
+  | inr later ↦ with_names-has (with_name names p) ps q later
+]
 
 pub with_names-only : (names more : List PosId) (q : PosId) → has_name (with_names names more) q ≡ true → (has_name names q ≡ true) ⊎ (has_name more q ≡ true)
 with_names-only names [] q is = inl is
 with_names-only names (p ∷ ps) q is = elim (with_names-only (with_name names p) ps q is) [
-    inl before ↦ elim (with_name-only names p q before) [
-        inl there ↦ inl there
-      | inr one ↦ inr (or_left (eqb q.0 p.0) (has_name ps q) (eq-eqb q.0 p.0 one)) ]
-  | inr later ↦ inr (or_right (eqb q.0 p.0) (has_name ps q) later) ]
+  | inl before ↦ elim (with_name-only names p q before) [
+    | inl there ↦ inl there
+    | inr one ↦ inr (or_left (eqb q.0 p.0) (has_name ps q) (eq-eqb q.0 p.0 one))
+  ]
+  | inr later ↦ inr (or_right (eqb q.0 p.0) (has_name ps q) later)
+]
 
 -- no name stands twice
 abbrev StandOnce : List PosId → Type 0
@@ -72,15 +74,19 @@ with_name-once : (names : List PosId) (p : PosId) → StandOnce names → StandO
 with_name-once names p once = by_case (has_name names p) refl where
   fresh : has_name names p ≡ false → (k : ℕ) (q : PosId) → slice_get names k ≡ Some q → q.0 ≡ p.0 → ⊥
   fresh new k q e same = both_ways (has_name names p) new (subst (λ r. has_name names r ≡ true) (same_position q p same) (has_name-at names k q e))
+
   by_case : (b : Bool) → has_name names p ≡ b → StandOnce (cond b names (names ++ p ∷ []))
   by_case true is = once
   by_case false new = λ i j q r e f same. elim (slice_get-push names p i q e) [
-      inl first ↦ elim (slice_get-push names p j r f) [
-          inl second ↦ once i j q r first second same
-        | inr last ↦ absurd (fresh new i q first (same ∙ ap (λ (x : PosId). x.0) last.1)) ]
+    | inl first ↦ elim (slice_get-push names p j r f) [
+      | inl second ↦ once i j q r first second same
+      | inr last ↦ absurd (fresh new i q first (same ∙ ap (λ (x : PosId). x.0) last.1))
+    ]
     | inr end ↦ elim (slice_get-push names p j r f) [
-          inl second ↦ absurd (fresh new j r second (sym same ∙ ap (λ (x : PosId). x.0) end.1))
-        | inr last ↦ end.0 ∙ sym last.0 ] ]
+      | inl second ↦ absurd (fresh new j r second (sym same ∙ ap (λ (x : PosId). x.0) end.1))
+      | inr last ↦ end.0 ∙ sym last.0
+    ]
+  ]
 
 pub with_names-once : (names more : List PosId) → StandOnce names → StandOnce (with_names names more)
 with_names-once names [] once = once
@@ -149,8 +155,9 @@ looked_again (q ∷ qs) words p is = by_case (eqb q.0 p.0) refl (λ later. looke
       slice_index words p.0 ≡ cond b (slice_index words q.0) (looked_word qs (map (λ (r : PosId). slice_index words r.0) qs) p.0)
   by_case true e rest = ap (slice_index words) (sym (eqb-true q.0 p.0 e))
   by_case false e rest = elim (or_cases (eqb p.0 q.0) (has_name qs p) is) [
-      inl one ↦ absurd (both_ways (eqb q.0 p.0) e (eq-eqb q.0 p.0 (sym (eqb-true p.0 q.0 one))))
-    | inr later ↦ rest later ]
+    | inl one ↦ absurd (both_ways (eqb q.0 p.0) e (eq-eqb q.0 p.0 (sym (eqb-true p.0 q.0 one))))
+    | inr later ↦ rest later
+  ]
 
 -- what is left over the words of all positions is what is left over the words of the inputs
 pub value_in-value_at : (s : System) (p : ℕ) (words : List ℕ) → value_in s p words ≡ value_at s p (map (λ (q : PosId). slice_index words q.0) (inputs_of s p))

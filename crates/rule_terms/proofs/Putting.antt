@@ -1,6 +1,5 @@
 -- One more term in a pool.
-use Rattle.std.proofs.Common.{◌≡◌, ℕ, zero, suc, ◌+◌, ◌<◌, ◌≤◌, Bool, true, false, cond, ◌&&◌, List, [], ◌∷◌, ◌++◌, length, get_or, slice_get, Some, refl, ap, sym, ◌∙◌, subst, arith, append_assoc, length-append, nat_lt, append-nil, inl, inr}
-use Rattle.std.specs.List.{fold}
+use Rattle.std.proofs.Common.{◌≡◌, ℕ, ◌<◌, ◌≤◌, Bool, true, ◌&&◌, List, [], ◌∷◌, ◌++◌, length, slice_get, Some, refl, ap, sym, ◌∙◌, arith, append_assoc, length-append, nat_lt, append-nil, inl, inr}
 use Rattle.std.proofs.lemmas.Bool.{and_parts, and_from, ltb-true, lt-ltb}
 use Rattle.std.proofs.lemmas.List.Sums.{fold-append}
 use Rattle.std.proofs.lemmas.Option.{slice_get_within, get_or_from_slice_get}
@@ -11,11 +10,11 @@ use Rattle.rule_terms.specs.declared.term.Term.TheVariants as slot
 use Rattle.rule_terms.specs.declared.term.TermId.{TermId}
 use Rattle.rule_terms.specs.declared.term.NewTerm.{NewTerm}
 use Rattle.rule_terms.specs.declared.term.NewTerm.TheOpen.{NewTerm-F, NewTerm-F as new}
-use Rattle.rule_terms.specs.declared.term.NewTerm.TheViews.{roll-NewTerm, the_lemmas}
-use Rattle.rule_terms.specs.declared.term.NewTerm.TheFolds.{fold-roll-NewTerm, fold_out-NewTerm, map-NewTerm}
+use Rattle.rule_terms.specs.declared.term.NewTerm.TheViews.{roll-NewTerm}
+use Rattle.rule_terms.specs.declared.term.NewTerm.TheFolds.{fold-roll-NewTerm, map-NewTerm}
 use Rattle.rule_terms.specs.Names.{names_of, layer_names, with_name, with_names, is_over, is_layer_over}
-use Rattle.rule_terms.specs.Slots.{Numbered, const, word, both, either, unless, shift, keep_align, spread, nth, slot_term, slot_terms, named, input_at, is_numbered, AreOrdered, IsBehind}
-use Rattle.rule_terms.specs.Pool.{IsPool, IsGrown, GoesOn, Has}
+use Rattle.rule_terms.specs.Slots.{Numbered, const, word, both, either, unless, shift, keep_align, spread, nth, slot_term, slot_terms, named, is_numbered, AreOrdered, IsBehind}
+use Rattle.rule_terms.specs.Pool.{IsGrown, GoesOn, Has}
 use Rattle.rule_terms.proofs.Marked.{slice_get-push, slice_get-append_left}
 use Rattle.rule_terms.proofs.Slotted.{nth-grown, nth-pushed, is_numbered-more, named-grown}
 
@@ -36,8 +35,9 @@ goes_on_trans a b c ab bc = record {
 -- one more slot stands behind its parts, too
 pub AreOrdered-push : (slots : List Term) (slot : Term) → AreOrdered slots → IsBehind (length slots) slot → AreOrdered (slots ++ slot ∷ [])
 AreOrdered-push slots slot ordered behind k s e = elim (slice_get-push slots slot k s e) [
-    inl is ↦ ordered k s is
-  | inr last ↦ rw (last.1, last.0) behind ]
+  | inl is ↦ ordered k s is
+  | inr last ↦ rw (last.1, last.0) behind
+]
 
 pub grown_length : {A : Type 0} (xs ys : List A) → IsGrown xs ys → length xs ≤ length ys
 grown_length xs ys (more, e) = omega (arith, length-append xs more, ap length e)
@@ -46,7 +46,7 @@ grown_length xs ys (more, e) = omega (arith, length-append xs more, ap length e)
 pub has_stays : (a b : Pool) (t : NewTerm) (place : ℕ) → Has a t place → GoesOn a b → Has b t place
 has_stays a b t place has on =
     let here : nth (slot_terms b.slots.items) place ≡ nth (slot_terms a.slots.items) place =
-      ap (λ l. nth (slot_terms l) place) on.slots.1 ∙ nth-grown a.slots.items on.slots.0 place has.within in
+    ap (λ l. nth (slot_terms l) place) on.slots.1 ∙ nth-grown a.slots.items on.slots.0 place has.within in
     let longer = grown_length a.slots.items b.slots.items on.slots in
     let more = grown_length a.inputs.items b.inputs.items on.inputs in
     record {
@@ -69,7 +69,7 @@ module _ (a b : Pool) (place : ℕ) where
   has_pushed : (slot : Term) → Pushes a b slot place → (s : Numbered) → slot_term (slot_terms a.slots.items) slot ≡ s → is_numbered (length a.inputs.items) s ≡ true → (t : NewTerm) → named a.inputs.items s ≡ t → Has b t place
   has_pushed slot pushes s said numbered t is =
       let here : nth (slot_terms b.slots.items) place ≡ s =
-        ap (λ l. nth (slot_terms l) place) pushes.slots ∙ ap (λ n. nth (slot_terms (a.slots.items ++ slot ∷ [])) n) pushes.last ∙ nth-pushed a.slots.items slot ∙ said in
+      ap (λ l. nth (slot_terms l) place) pushes.slots ∙ ap (λ n. nth (slot_terms (a.slots.items ++ slot ∷ [])) n) pushes.last ∙ nth-pushed a.slots.items slot ∙ said in
       record {
         within = omega (arith, ap length pushes.slots, length-append a.slots.items (slot ∷ []), pushes.last);
         numbered = rw here (ap (λ l. is_numbered (length l) s) pushes.inputs ∙ numbered);

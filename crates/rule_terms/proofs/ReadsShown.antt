@@ -1,5 +1,5 @@
 -- What a position's terms read, read from the slots.
-use Rattle.std.proofs.Common.{◌≡◌, ◌≢◌, ℕ, zero, suc, ◌+◌, ◌^◌, ◌<◌, Bool, true, false, cond, eqb, eq-eqb, eqb-true, ◌&&◌, List, [], ◌∷◌, length, map, get_or, slice_get, slice_index, Some, bit_and, bit_or, refl, ap, sym, ◌∙◌, subst, arith, nat_lt, inl, inr}
+use Rattle.std.proofs.Common.{◌≡◌, ℕ, zero, suc, ◌^◌, ◌<◌, true, cond, eqb, eq-eqb, ◌&&◌, List, [], ◌∷◌, length, map, slice_get, slice_index, Some, bit_or, refl, ap, sym, ◌∙◌, subst, nat_lt, inl, inr}
 use Rattle.std.specs.List.{fold}
 use Rattle.std.proofs.lemmas.Bool.{and_parts, ltb-true, cases_eq, ne_eqb}
 use Rattle.std.proofs.lemmas.Option.{slice_get-get_or}
@@ -8,7 +8,6 @@ use Rattle.rule_terms.specs.declared.rule.Rule.{Rule}
 use Rattle.rule_terms.specs.declared.system.System.TheInside.{Inside}
 use Rattle.rule_terms.specs.declared.term.Term.{Term}
 use Rattle.rule_terms.specs.declared.term.TermId.{TermId}
-use Rattle.rule_terms.specs.declared.term.NewTerm.{NewTerm}
 use Rattle.rule_terms.specs.declared.term.NewTerm.TheOpen.{NewTerm-F as new}
 use Rattle.rule_terms.specs.declared.term.NewTerm.TheFolds.{fold-roll-NewTerm}
 use Rattle.rule_terms.specs.Pool.{AreApart}
@@ -28,8 +27,9 @@ module _ (inputs : List PosId) (count : ℕ) (stand : AreApart inputs count) (re
       let here = slice_get-get_or inputs n (record { 0 = 0 }) within in
       let there = slice_get-get_or inputs read (record { 0 = 0 }) is_input in
       elim (cases_eq n read) [
-          inl one ↦ eq-eqb (input_at inputs n).0 (input_at inputs read).0 (ap (λ k. (input_at inputs k).0) one) ∙ sym (eq-eqb n read one)
-        | inr two ↦ ne_eqb (input_at inputs n).0 (input_at inputs read).0 (λ same. two (stand.apart n read (input_at inputs n) (input_at inputs read) here there same)) ∙ sym (ne_eqb n read two) ]
+        | inl one ↦ eq-eqb (input_at inputs n).0 (input_at inputs read).0 (ap (λ k. (input_at inputs k).0) one) ∙ sym (eq-eqb n read one)
+        | inr two ↦ ne_eqb (input_at inputs n).0 (input_at inputs read).0 (λ same. two (stand.apart n read (input_at inputs n) (input_at inputs read) here there same)) ∙ sym (ne_eqb n read two)
+      ]
 
   abbrev asked : ℕ
   asked = (input_at inputs read).0

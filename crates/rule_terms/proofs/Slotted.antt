@@ -1,5 +1,5 @@
 -- Terms in slots: what a slot says stays as slots and inputs are added.
-use Rattle.std.proofs.Common.{◌≡◌, ℕ, zero, suc, ◌+◌, ◌<◌, ◌≤◌, Bool, true, false, cond, ◌&&◌, List, [], ◌∷◌, ◌++◌, length, get_or, slice_get, Some, refl, ap, sym, ◌∙◌, subst, arith, append_assoc, length-append, nat_lt}
+use Rattle.std.proofs.Common.{◌≡◌, ℕ, zero, suc, ◌+◌, ◌<◌, ◌≤◌, true, ◌&&◌, List, [], ◌∷◌, ◌++◌, length, slice_get, Some, refl, ap, sym, ◌∙◌, subst, arith, append_assoc, length-append, nat_lt}
 use Rattle.std.specs.List.{fold}
 use Rattle.std.proofs.lemmas.Bool.{and_parts, and_from, ltb-true, lt-ltb}
 use Rattle.std.proofs.lemmas.List.{get_or_append_left}
@@ -10,7 +10,6 @@ use Rattle.rule_terms.specs.declared.term.Term.{Term}
 use Rattle.rule_terms.specs.declared.term.Term.TheVariants as slot
 use Rattle.std.proofs.lemmas.Option.{same_Some}
 use Rattle.rule_terms.specs.Slots.{Numbered, const, word, both, either, unless, shift, keep_align, spread, nth, slot_term, slot_terms, named, input_at, is_numbered, AreOrdered, IsBehind}
-use Rattle.rule_terms.specs.Pool.{IsGrown}
 
 abbrev with_slot : List Numbered → Term → List Numbered
 with_slot terms slot = terms ++ slot_term terms slot ∷ []
@@ -119,8 +118,8 @@ nth-slot slots place slot ordered is =
     let behind : IsBehind (length front) slot = rw parts.2 (ordered place slot is) in
     let short : length front < length (front ++ slot ∷ []) = omega (arith, length-append front (slot ∷ [])) in
     let first : nth (slot_terms ((front ++ slot ∷ []) ++ back)) (length front) ≡ slot_term (slot_terms ((front ++ slot ∷ []) ++ back)) slot =
-      nth-grown (front ++ slot ∷ []) back (length front) short
-      ∙ nth-pushed front slot
-      ∙ sym (slot_term-grown front (slot ∷ [] ++ back) slot behind)
-      ∙ ap (λ l. slot_term (slot_terms l) slot) (sym (append_assoc front (slot ∷ []) back)) in
+    nth-grown (front ++ slot ∷ []) back (length front) short
+    ∙ nth-pushed front slot
+    ∙ sym (slot_term-grown front (slot ∷ [] ++ back) slot behind)
+    ∙ ap (λ l. slot_term (slot_terms l) slot) (sym (append_assoc front (slot ∷ []) back)) in
     subst (λ k. nth (slot_terms slots) k ≡ slot_term (slot_terms slots) slot) parts.2 (subst (λ l. nth (slot_terms l) (length front) ≡ slot_term (slot_terms l) slot) (sym whole) first)

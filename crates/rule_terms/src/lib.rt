@@ -13,9 +13,9 @@ mod term;
 mod value;
 
 pub use laws::{
-    a_cut_stays_above, cuts_lead_to_the_greatest, eval_goes_by_the_inputs, eval_goes_by_what_is_read,
-    eval_is_monotone, inputs_are_the_named_positions, meet_changes_one_position, meet_is_and,
-    the_greatest_is_one,
+    a_cut_stays_above, cuts_lead_to_the_greatest, eval_goes_by_the_inputs,
+    eval_goes_by_what_is_read, eval_is_monotone, inputs_are_the_named_positions,
+    meet_changes_one_position, meet_is_and, the_greatest_is_one,
 };
 pub use system::System;
 pub use term::{NewTerm, Term, TermId};

@@ -100,7 +100,11 @@ impl Pool {
             NewTerm::Unless { input, bit, then } => {
                 let input = self.number_of(*input)?;
                 let then = self.put(then.get())?;
-                let place = self.push(Term::Unless { input, bit: *bit, then })?;
+                let place = self.push(Term::Unless {
+                    input,
+                    bit: *bit,
+                    then,
+                })?;
                 Ok(place)
             }
             NewTerm::Shift { bytes, of } => {
@@ -115,7 +119,11 @@ impl Pool {
             }
             NewTerm::Spread { bit, to, of } => {
                 let of = self.put(of.get())?;
-                let place = self.push(Term::Spread { bit: *bit, to: *to, of })?;
+                let place = self.push(Term::Spread {
+                    bit: *bit,
+                    to: *to,
+                    of,
+                })?;
                 Ok(place)
             }
         }

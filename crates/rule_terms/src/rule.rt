@@ -39,7 +39,11 @@ pub(crate) fn open(rules: &[Rule], pool: &mut Pool, marked: &mut u32, p: PosId)
     }
 }
 
-fn put_met(pool: &mut Pool, places: &mut SmallVec<TermId, 2>, term: &NewTerm) -> Result<(), NoMemory>
+fn put_met(
+    pool: &mut Pool,
+    places: &mut SmallVec<TermId, 2>,
+    term: &NewTerm,
+) -> Result<(), NoMemory>
     requires pool { IsPool pool.old }
     requires over { IsTrue (is_over (length pool.old.marks.items) term.now) }
     ensures goes_on { GoesOn pool.old pool.new }
@@ -52,7 +56,12 @@ fn put_met(pool: &mut Pool, places: &mut SmallVec<TermId, 2>, term: &NewTerm) ->
 }
 
 /// Meets one more term into the rule, whose inputs are marked.
-pub(crate) fn meet_in(pool: &mut Pool, rule: &mut Rule, alloc: Global, term: &NewTerm) -> Result<(), NoMemory>
+pub(crate) fn meet_in(
+    pool: &mut Pool,
+    rule: &mut Rule,
+    alloc: Global,
+    term: &NewTerm,
+) -> Result<(), NoMemory>
     requires pool { IsPool pool.old }
     requires closed { pool.old.inputs.items ≡ [] }
     requires marked { IsMarked rule.old.inputs pool.old.marks.items }

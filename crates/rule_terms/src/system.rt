@@ -119,7 +119,12 @@ impl System {
     {
         let rule = &self.rules[p.0 as usize];
         let mask = self.masks.as_slice()[p.0 as usize];
-        meet(&self.pool.slots, &Looked::Each(looked), rule.places.as_slice(), mask)
+        meet(
+            &self.pool.slots,
+            &Looked::Each(looked),
+            rule.places.as_slice(),
+            mask,
+        )
     }
 
     /// What the position's mask and terms leave, where `words` has the word of each position.

@@ -37,9 +37,15 @@ pub enum NewTerm {
         then: Boxed<NewTerm>,
     },
     /// The part's word after a constant offset of so many bytes, by the ladder of bytes.
-    Shift { bytes: u64, of: Boxed<NewTerm> },
+    Shift {
+        bytes: u64,
+        of: Boxed<NewTerm>,
+    },
     /// The part's word without the rungs of alignment that a step of so many bytes loses.
-    KeepAlign { step: u64, of: Boxed<NewTerm> },
+    KeepAlign {
+        step: u64,
+        of: Boxed<NewTerm>,
+    },
     /// The bits `to` where the part's bit is set, else none.
     Spread {
         bit: u32,

@@ -13,7 +13,10 @@ use lattice_words::{keep_align, shift};
 #[derive(Clone, Copy)]
 pub(crate) enum Looked<'a> {
     Each(&'a [u64]),
-    Through { inputs: &'a [PosId], words: &'a [u64] },
+    Through {
+        inputs: &'a [PosId],
+        words: &'a [u64],
+    },
 }
 
 impl Looked<'_> {
@@ -69,15 +72,11 @@ pub(crate) fn reads(slots: &[Term], read: u32, wanted: u64, place: TermId) -> u6
     let slot = slots[place.0 as usize];
     match slot {
         Term::Const(_) => 0,
-        Term::Word(input) => {
-            if input == read {
-                wanted
-            } else {
-                0
-            }
-        }
-        Term::And(left, right) => reads(slots, read, wanted, left) | reads(slots, read, wanted, right),
-        Term::Or(left, right) => reads(slots, read, wanted, left) | reads(slots, read, wanted, right),
+        Term::Word(input) => { if input == read { wanted } else { 0 } }
+        Term::And(left, right) => reads(slots, read, wanted, left)
+            | reads(slots, read, wanted, right),
+        Term::Or(left, right) => reads(slots, read, wanted, left)
+            | reads(slots, read, wanted, right),
         Term::Unless { input, bit, then } => {
             let then = reads(slots, read, wanted, then);
             if input == read { 1 << bit | then } else { then }

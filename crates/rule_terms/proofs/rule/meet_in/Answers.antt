@@ -1,4 +1,4 @@
-use Rattle.std.proofs.Common.{◌≡◌, sym, ◌∙◌, take, drop, subst}
+use Rattle.std.proofs.Common.{sym, take, drop, subst}
 use Rattle.std.proofs.lemmas.List.{take-append-drop}
 use Rattle.rule_terms.specs.Pool.{IsMarked}
 use Rattle.rule_terms.proofs.Marked.{marked_front}
@@ -15,9 +15,10 @@ put_met-met-requires-clause-pool c = record {
 pub returns-clause-marked : goal.returns-clause-marked
 returns-clause-marked c =
     let here : IsMarked c.if-is_err.pool.inputs.items c.if-is_err.pool.marks.items = elim c.if-is_err.branch [
-        then-is_err w ↦
+      | then-is_err w ↦
           let all = c.put_met-met.new.pool.inputs.items in
           rw (w.pool-is, w.truncate.ensures.items)
           (marked_front (take c.len-before.result all) (drop c.len-before.result all) c.put_met-met.new.pool.marks.items (subst (λ l. IsMarked l c.put_met-met.new.pool.marks.items) (sym (take-append-drop c.len-before.result all)) c.put_met-met.ensures.goes_on.pool.marked))
-      | else-is_err w ↦ rw w.pool-is c.put_met-met.ensures.goes_on.pool.marked ] in
+      | else-is_err w ↦ rw w.pool-is c.put_met-met.ensures.goes_on.pool.marked
+    ] in
     rw (c.from_vec.ensures, c.replace-2.ensures.value) here

@@ -1,10 +1,9 @@
-use Rattle.std.proofs.Common.{◌≡◌, refl, arith, sym, ◌∙◌, rules, length, ◌++◌, slice_get, Some, true}
-use Rattle.std.proofs.lemmas.Bool.{ltb-true}
-use Rattle.rule_terms.specs.Names.{names_of, layer_names, with_names, is_over}
+use Rattle.std.proofs.Common.{◌≡◌, rules, length, true}
+use Rattle.rule_terms.specs.Names.{names_of, is_over}
 use Rattle.rule_terms.specs.Pool.{Has}
 use Rattle.rule_terms.specs.declared.term.NewTerm.TheOpen.{NewTerm-F as new}
 use Rattle.rule_terms.specs.declared.term.NewTerm.TheViews.{roll-NewTerm, the_lemmas}
-use Rattle.rule_terms.proofs.Putting.{Pushes, has_stays, put_const, put_word, put_and, put_or, put_unless, put_shift, put_keep_align, put_spread, two_names, input_stays, over_and, over_or, over_unless, over_spread, names_and, names_or}
+use Rattle.rule_terms.proofs.Putting.{has_stays, put_const, put_word, put_and, put_or, put_unless, put_shift, put_keep_align, put_spread, two_names, input_stays, over_and, over_or, over_unless, over_spread, names_and, names_or}
 use Rattle.rule_terms.proofs.pool.Pool.+put.Goals as goal
 
 pub returns-in_ok-place-in-Const-clause-has : goal.returns-in_ok-place-in-Const-clause-has
@@ -29,7 +28,7 @@ pub returns-in_ok-place-in-And-clause-has : goal.returns-in_ok-place-in-And-clau
 returns-in_ok-place-in-And-clause-has t c =
     let is : roll-NewTerm (new.And c.get.result.now c.get-in-And.result.now) ≡ c.args.term.now = search (rules, the_lemmas) in
     let first : Has c.put-in-And.new.self c.get.result.now c.in_ok-left-in-And.left.0 =
-      has_stays c.put.new.self c.put-in-And.new.self c.get.result.now c.in_ok-left-in-And.left.0 c.in_ok-left-in-And.ensures.has c.in_ok-right-in-And.ensures.goes_on in
+    has_stays c.put.new.self c.put-in-And.new.self c.get.result.now c.in_ok-left-in-And.left.0 c.in_ok-left-in-And.ensures.has c.in_ok-right-in-And.ensures.goes_on in
     put_and c.put-in-And.new.self c.push-in-And.new.self c.in_ok-place-in-And.place.0 c.in_ok-left-in-And.left c.in_ok-right-in-And.right c.get.result.now c.get-in-And.result.now c.args.term.now
     first c.in_ok-right-in-And.ensures.has (record { inputs = c.in_ok-place-in-And.ensures.inputs; slots = c.in_ok-place-in-And.ensures.pushed; last = c.in_ok-place-in-And.ensures.last }) is
 
@@ -38,7 +37,7 @@ returns-in_ok-place-in-And-clause-names t c =
     let is : roll-NewTerm (new.And c.get.result.now c.get-in-And.result.now) ≡ c.args.term.now = search (rules, the_lemmas) in
     rw (names_and c.get.result.now c.get-in-And.result.now c.args.term.now is)
     (two_names c.args.self.now.inputs.items c.put.new.self.inputs.items c.put-in-And.new.self.inputs.items c.push-in-And.new.self.inputs.items (names_of c.get.result.now) (names_of c.get-in-And.result.now)
-     c.in_ok-left-in-And.ensures.names c.in_ok-right-in-And.ensures.names c.in_ok-place-in-And.ensures.inputs)
+    c.in_ok-left-in-And.ensures.names c.in_ok-right-in-And.ensures.names c.in_ok-place-in-And.ensures.inputs)
 
 pub put-requires-in-Or-2 : goal.put-requires-in-Or-2
 put-requires-in-Or-2 t c =
@@ -50,7 +49,7 @@ pub returns-in_ok-place-in-Or-clause-has : goal.returns-in_ok-place-in-Or-clause
 returns-in_ok-place-in-Or-clause-has t c =
     let is : roll-NewTerm (new.Or c.get-in-Or.result.now c.get-in-Or-2.result.now) ≡ c.args.term.now = search (rules, the_lemmas) in
     let first : Has c.put-in-Or-2.new.self c.get-in-Or.result.now c.in_ok-left-in-Or.left.0 =
-      has_stays c.put-in-Or.new.self c.put-in-Or-2.new.self c.get-in-Or.result.now c.in_ok-left-in-Or.left.0 c.in_ok-left-in-Or.ensures.has c.in_ok-right-in-Or.ensures.goes_on in
+    has_stays c.put-in-Or.new.self c.put-in-Or-2.new.self c.get-in-Or.result.now c.in_ok-left-in-Or.left.0 c.in_ok-left-in-Or.ensures.has c.in_ok-right-in-Or.ensures.goes_on in
     put_or c.put-in-Or-2.new.self c.push-in-Or.new.self c.in_ok-place-in-Or.place.0 c.in_ok-left-in-Or.left c.in_ok-right-in-Or.right c.get-in-Or.result.now c.get-in-Or-2.result.now c.args.term.now
     first c.in_ok-right-in-Or.ensures.has (record { inputs = c.in_ok-place-in-Or.ensures.inputs; slots = c.in_ok-place-in-Or.ensures.pushed; last = c.in_ok-place-in-Or.ensures.last }) is
 
@@ -59,7 +58,7 @@ returns-in_ok-place-in-Or-clause-names t c =
     let is : roll-NewTerm (new.Or c.get-in-Or.result.now c.get-in-Or-2.result.now) ≡ c.args.term.now = search (rules, the_lemmas) in
     rw (names_or c.get-in-Or.result.now c.get-in-Or-2.result.now c.args.term.now is)
     (two_names c.args.self.now.inputs.items c.put-in-Or.new.self.inputs.items c.put-in-Or-2.new.self.inputs.items c.push-in-Or.new.self.inputs.items (names_of c.get-in-Or.result.now) (names_of c.get-in-Or-2.result.now)
-     c.in_ok-left-in-Or.ensures.names c.in_ok-right-in-Or.ensures.names c.in_ok-place-in-Or.ensures.inputs)
+    c.in_ok-left-in-Or.ensures.names c.in_ok-right-in-Or.ensures.names c.in_ok-place-in-Or.ensures.inputs)
 
 pub returns-in_ok-place-in-Unless-clause-has : goal.returns-in_ok-place-in-Unless-clause-has
 returns-in_ok-place-in-Unless-clause-has t c =

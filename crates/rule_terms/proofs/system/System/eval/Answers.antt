@@ -1,8 +1,7 @@
-use Rattle.std.proofs.Common.{◌≡◌, ◌<◌, ◌∙◌, sym, ap, subst, refl, arith, length, slice_get, slice_index, Some}
-use Rattle.rule_terms.specs.declared.rule.Rule.{Rule}
+use Rattle.std.proofs.Common.{◌≡◌, ◌∙◌, sym, ap, length, slice_get, slice_index, Some}
 use Rattle.rule_terms.specs.Kept.{IsRule}
-use Rattle.rule_terms.specs.Slots.{input_at, IsReadable}
-use Rattle.rule_terms.specs.System.{System, inputs_of, looked_word}
+use Rattle.rule_terms.specs.Slots.{input_at}
+use Rattle.rule_terms.specs.System.{inputs_of, looked_word}
 use Rattle.rule_terms.proofs.Keeping.{found_rule}
 use Rattle.rule_terms.proofs.Valued.{value-shown, inputs-shown, looked_word-at}
 use Rattle.rule_terms.proofs.system.System.eval.Goals as goal
@@ -29,5 +28,5 @@ returns c =
     let before = (goal.at.returns c).After-as_slice-2 in
     (rw (c.as_slice.ensures, c.deref.ensures.value, c.as_slice-2.ensures) at c.meet.ensures)
     ∙ value-shown c.self.inside c.args.self.now c.args.p.0 c.index-rule.result.now c.self.invariant c.self.view_is (found before)
-      (looked_word (inputs_of c.args.self.now c.args.p.0) c.args.looked.now) (λ n. slice_index c.args.looked.now n)
-      (λ n l. ap (λ l. looked_word l c.args.looked.now (input_at c.index-rule.result.now.inputs n).0) (sym (inputs before)) ∙ looked_word-at c.index-rule.result.now.inputs c.args.looked.now (rule before).apart.apart (one_word_each before) n l)
+    (looked_word (inputs_of c.args.self.now c.args.p.0) c.args.looked.now) (λ n. slice_index c.args.looked.now n)
+    (λ n l. ap (λ l. looked_word l c.args.looked.now (input_at c.index-rule.result.now.inputs n).0) (sym (inputs before)) ∙ looked_word-at c.index-rule.result.now.inputs c.args.looked.now (rule before).apart.apart (one_word_each before) n l)

@@ -1,8 +1,7 @@
-use Rattle.std.proofs.Common.{◌≡◌, ◌<◌, ◌∙◌, sym, ap, subst, refl, arith, length, slice_get, slice_index, Some}
-use Rattle.rule_terms.specs.declared.rule.Rule.{Rule}
+use Rattle.std.proofs.Common.{◌≡◌, ◌<◌, ◌∙◌, ap, refl, arith, length, slice_get, slice_index, Some}
 use Rattle.rule_terms.specs.Kept.{IsRule}
 use Rattle.rule_terms.specs.Slots.{input_at}
-use Rattle.rule_terms.specs.System.{System, value_in}
+use Rattle.rule_terms.specs.System.{System}
 use Rattle.rule_terms.proofs.Keeping.{found_rule}
 use Rattle.rule_terms.proofs.Valued.{value-shown}
 use Rattle.rule_terms.proofs.system.System.eval_in.Goals as goal
@@ -29,4 +28,4 @@ returns c =
     let before = (goal.at.returns c).After-as_slice-4 in
     (rw (c.as_slice-2.ensures, c.as_slice-3.ensures, c.as_slice.ensures, c.deref.ensures.value, c.as_slice-4.ensures) at c.meet.ensures)
     ∙ value-shown c.self.inside c.args.self.now c.args.p.0 c.index-rule.result.now c.self.invariant c.self.view_is (found before)
-      (λ q. slice_index c.args.words.now q) (λ n. slice_index c.args.words.now (input_at c.index-rule.result.now.inputs n).0) (λ n l. refl)
+    (λ q. slice_index c.args.words.now q) (λ n. slice_index c.args.words.now (input_at c.index-rule.result.now.inputs n).0) (λ n l. refl)

@@ -1,13 +1,10 @@
-use Rattle.std.proofs.Common.{◌≡◌, ◌⊎◌, true, sym, ◌∙◌, ap, subst, refl, length, slice_get, get_or, Some, inl, inr}
-use Rattle.std.proofs.lemmas.Option.{same_Some, slice_get_read}
-use Rattle.attr_ids.specs.declared.memory.NoMemory.{NoMemory}
+use Rattle.std.proofs.Common.{◌≡◌, true, sym, ◌∙◌, ap, subst, refl, length, inl, inr}
 use Rattle.rule_terms.specs.declared.system.System.TheInside.{Inside}
-use Rattle.rule_terms.specs.declared.rule.Rule.{Rule}
 use Rattle.rule_terms.specs.Names.{is_over}
-use Rattle.rule_terms.specs.Pool.{IsMarked, AreApart, IsGrown}
+use Rattle.rule_terms.specs.Pool.{AreApart, IsGrown}
 use Rattle.rule_terms.specs.Meeting.{Met, NotMet}
 use Rattle.rule_terms.specs.System.{System, with_term}
-use Rattle.rule_terms.specs.Inside.{shown, IsKept}
+use Rattle.rule_terms.specs.Inside.{shown}
 use Rattle.std.specs.Vec.{with_item}
 use Rattle.rule_terms.proofs.Keeping.{IsStep, found_rule, step_kept, step_met, step_unmet, told, on_ok, on_err}
 use Rattle.rule_terms.proofs.system.System.meet.Goals as goal
@@ -46,17 +43,18 @@ over c = subst (λ (s : System). is_over (length s.masks) c.args.term ≡ true) 
 
 pub invariant_of-self : goal.invariant_of-self
 invariant_of-self c = elim (told c.meet_in.result c.meet_in.ensures.met c.meet_in.ensures.err) [
-    inl met ↦ step_kept c.self.inside (after c) c.self.invariant c.args.p.0 c.index_mut.result.now c.meet_in.new.rule (step c) (step_met c.self.inside (after c) c.self.invariant c.args.p.0 c.index_mut.result.now c.meet_in.new.rule (step c) c.args.term met (over c)).0
-  | inr unmet ↦ step_kept c.self.inside (after c) c.self.invariant c.args.p.0 c.index_mut.result.now c.meet_in.new.rule (step c) (step_unmet c.self.inside (after c) c.self.invariant c.args.p.0 c.index_mut.result.now c.meet_in.new.rule (step c) unmet).0 ]
+  | inl met ↦ step_kept c.self.inside (after c) c.self.invariant c.args.p.0 c.index_mut.result.now c.meet_in.new.rule (step c) (step_met c.self.inside (after c) c.self.invariant c.args.p.0 c.index_mut.result.now c.meet_in.new.rule (step c) c.args.term met (over c)).0
+  | inr unmet ↦ step_kept c.self.inside (after c) c.self.invariant c.args.p.0 c.index_mut.result.now c.meet_in.new.rule (step c) (step_unmet c.self.inside (after c) c.self.invariant c.args.p.0 c.index_mut.result.now c.meet_in.new.rule (step c) unmet).0
+]
 
 pub returns-clause-ok : goal.returns-clause-ok
 returns-clause-ok c =
     let here : Met (after c).pool.slots.items c.index_mut.result.now c.meet_in.new.rule c.args.term → shown (after c) ≡ with_term c.args.self.now c.args.p.0 c.args.term =
-      λ met. (step_met c.self.inside (after c) c.self.invariant c.args.p.0 c.index_mut.result.now c.meet_in.new.rule (step c) c.args.term met (over c)).1 ∙ ap (λ (s : System). with_term s c.args.p.0 c.args.term) c.self.view_is in
+    λ met. (step_met c.self.inside (after c) c.self.invariant c.args.p.0 c.index_mut.result.now c.meet_in.new.rule (step c) c.args.term met (over c)).1 ∙ ap (λ (s : System). with_term s c.args.p.0 c.args.term) c.self.view_is in
     on_ok c.meet_in.result here c.meet_in.ensures.met
 
 pub returns-clause-err : goal.returns-clause-err
 returns-clause-err c =
     let here : NotMet c.index_mut.result.now c.meet_in.new.rule → shown (after c) ≡ c.args.self.now =
-      λ unmet. (step_unmet c.self.inside (after c) c.self.invariant c.args.p.0 c.index_mut.result.now c.meet_in.new.rule (step c) unmet).1 ∙ c.self.view_is in
+    λ unmet. (step_unmet c.self.inside (after c) c.self.invariant c.args.p.0 c.index_mut.result.now c.meet_in.new.rule (step c) unmet).1 ∙ c.self.view_is in
     on_err c.meet_in.result here c.meet_in.ensures.err
