@@ -1,16 +1,15 @@
 -- The equations of a term's meaning, names and conditions, for those who make terms.
-use Rattle.std.proofs.Common.{◌≡◌, ℕ, ◌^◌, ◌<◌, Bool, true, cond, eqb, ◌&&◌, nat_lt, List, [], ◌∷◌, ◌++◌, bit_and, bit_or, ◌∙◌}
+use Rattle.std.proofs.Common.{◌≡◌, ℕ, ◌<◌, Bool, true, cond, eqb, ◌&&◌, nat_lt, bit_and, bit_or, ◌∙◌}
 use Rattle.std.specs.Int.{bit_at}
 use Rattle.std.proofs.lemmas.Bool.{and_from, lt-ltb}
 use Rattle.lattice_words.specs.Ladders.{shift_of, keep_align_of}
 use Rattle.attr_ids.specs.declared.ids.PosId.{PosId}
 use Rattle.rule_terms.specs.declared.term.NewTerm.{NewTerm}
-use Rattle.rule_terms.specs.declared.term.NewTerm.TheOpen.{NewTerm-F}
 use Rattle.rule_terms.specs.declared.term.NewTerm.TheOpen.NewTerm-F.{Const, Word, And, Or, Unless, Shift, KeepAlign, Spread}
 use Rattle.rule_terms.specs.declared.term.NewTerm.TheViews.{roll-NewTerm, the_lemmas}
 use Rattle.rule_terms.specs.declared.term.NewTerm.TheFolds.{fold-roll-NewTerm, fold_out-NewTerm, map-NewTerm}
 use Rattle.rule_terms.specs.Meaning.{layer_meaning, meaning, all_ones}
-use Rattle.rule_terms.specs.Names.{names_of, layer_names, is_over, is_layer_over}
+use Rattle.rule_terms.specs.Names.{is_over, is_layer_over}
 
 -- name it in `using(..)` on a function that makes or takes apart a term
 pub ruleset equations = (the_lemmas, fold-roll-NewTerm, fold_out-NewTerm)

@@ -1,14 +1,12 @@
 -- What a system keeps, and what it shows, as terms are met in.
-use Rattle.std.proofs.Common.{◌≡◌, ◌≢◌, ◌⊎◌, Bool, false, cond, ℕ, zero, suc, ◌+◌, ◌<◌, true, List, [], ◌∷◌, ◌++◌, length, length-set, map, get_or, set, slice_get, Option, Some, Result, Ok, Err, OnOk, OnErr, option_map, refl, ap, sym, ◌∙◌, subst, arith, All, inl, inr, get_or-set_same, get_or-set_other, length-append, append-nil, replicate, ◌^◌}
-use Rattle.std.specs.List.{flat_map, fold}
-use Rattle.std.proofs.lemmas.Bool.{cases_eq}
+use Rattle.std.proofs.Common.{◌≡◌, ◌≢◌, ◌⊎◌, Bool, false, cond, ℕ, zero, suc, ◌+◌, ◌<◌, true, List, [], ◌∷◌, ◌++◌, length, length-set, map, get_or, set, slice_get, Some, Result, Ok, Err, OnOk, OnErr, option_map, refl, ap, sym, ◌∙◌, subst, arith, All, inl, inr, length-append, append-nil, replicate, ◌^◌}
+use Rattle.std.specs.List.{flat_map}
 use Rattle.std.proofs.lemmas.List.{length-map, map-append, map-set}
 use Rattle.std.proofs.lemmas.List.Concat.{flat_map-append}
 use Rattle.std.proofs.lemmas.List.Sums.{fold-append}
 use Rattle.std.proofs.lemmas.List.Elements.{All-map, All-nil, All-push}
 use Rattle.std.proofs.lemmas.Option.{slice_get-get_or, slice_get_read, slice_get-map, get_or_from_slice_get, same_Some, none-some, slice_get_within}
 use Rattle.attr_ids.specs.declared.ids.PosId.{PosId}
-use Rattle.rule_terms.specs.declared.pool.Pool.{Pool}
 use Rattle.rule_terms.specs.declared.rule.Rule.{Rule}
 use Rattle.rule_terms.specs.declared.system.System.TheInside.{Inside}
 use Rattle.rule_terms.specs.declared.term.NewTerm.{NewTerm}

@@ -1,13 +1,13 @@
 -- A value goes by the bits that are read alone.
-use Rattle.std.proofs.Common.{◌≡◌, ◌≢◌, ◌⊎◌, ℕ, zero, suc, ◌+◌, ◌-◌, ◌^◌, ◌<◌, ◌≤◌, min, max, Bool, true, false, cond, eqb, eq-eqb, eqb-true, ◌&&◌, nat_lt, List, [], ◌∷◌, length, get_or, slice_index, All, bit_and, bit_or, refl, ap, sym, ◌∙◌, subst, arith, inl, inr}
+use Rattle.std.proofs.Common.{◌≡◌, ℕ, zero, suc, ◌^◌, ◌<◌, Bool, true, false, cond, eqb, eq-eqb, eqb-true, ◌&&◌, nat_lt, List, [], ◌∷◌, length, slice_index, All, bit_and, bit_or, refl, ap, sym, ◌∙◌, subst, arith, inl, inr}
 use Rattle.std.specs.List.{fold}
 use Rattle.std.specs.Int.{bit_at}
-use Rattle.std.proofs.lemmas.Bool.{and_parts, and_from, ltb-true, leb-true, le-leb, cond-true, cond-false, cases_Bool, cases_eq, cases_lt}
+use Rattle.std.proofs.lemmas.Bool.{and_parts, and_from, ltb-true, leb-true, le-leb, cond-true, cases_Bool, cases_eq, cases_lt}
 use Rattle.std.proofs.lemmas.List.Elements.{All-head, All-tail, All-get_or}
 use Rattle.std.proofs.lemmas.List.{get_or_past}
 use Rattle.std.proofs.lemmas.Nat.{and_le_l}
 use Rattle.std.proofs.lemmas.Nat.Bits.{bit_at_and, bit_at_or, bit_at-lt, bit_at-zero, bit_at-pow_same, bit_at_mask_inside, bit_at_mask_below, bit_at_mask_above, same_from_bits_below}
-use Rattle.lattice_words.specs.Ladders.{shift_of, keep_align_of, is_byte_bit}
+use Rattle.lattice_words.specs.Ladders.{shift_of, is_byte_bit}
 use Rattle.lattice_words.specs.declared.value.TheConstants.{ALL_BYTES}
 use Rattle.lattice_words.proofs.LadderBits.{bit_at-shift_of-other}
 use Rattle.lattice_words.proofs.Locality.{same_after_shift, same_after_step}

@@ -1,10 +1,8 @@
 -- What `meet` does to the values of positions, and how a value goes by the inputs' words alone.
-use Rattle.std.proofs.Common.{◌≡◌, ◌≢◌, ℕ, zero, suc, ◌+◌, ◌<◌, ◌≤◌, ◌⊎◌, Bool, true, false, cond, eqb, ◌||◌, List, [], ◌∷◌, ◌++◌, length, length-set, length-append, map, get_or, set, slice_get, slice_index, slice_index_or, Some, bit_and, refl, ap, sym, ◌∙◌, subst, arith, inl, inr, get_or-set_same, get_or-set_other}
-use Rattle.std.specs.List.{fold, flat_map}
+use Rattle.std.proofs.Common.{◌≡◌, ◌≢◌, ℕ, ◌<◌, [], ◌∷◌, ◌++◌, length, slice_index, bit_and, refl, get_or-set_same, get_or-set_other}
 use Rattle.std.proofs.lemmas.List.Sums.{fold_push}
-use Rattle.attr_ids.specs.declared.ids.PosId.{PosId}
 use Rattle.rule_terms.specs.declared.term.NewTerm.{NewTerm}
-use Rattle.rule_terms.specs.Meaning.{meaning, meet_of}
+use Rattle.rule_terms.specs.Meaning.{meaning}
 use Rattle.rule_terms.specs.System.{System, terms_at, with_term, value}
 
 -- the position's value with one more term is the And of the two

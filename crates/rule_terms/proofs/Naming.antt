@@ -1,9 +1,8 @@
 -- The inputs of a position: each position that its terms name, once, and a value goes by their words alone.
-use Rattle.std.proofs.Common.{◌≡◌, ◌≢◌, ◌⊎◌, ℕ, zero, suc, ◌+◌, ◌^◌, ◌<◌, Bool, true, false, cond, eqb, eq-eqb, eqb-true, ◌&&◌, ◌||◌, nat_lt, List, [], ◌∷◌, ◌++◌, length, map, get_or, slice_get, slice_index, All, Some, bit_and, bit_or, refl, ap, sym, ◌∙◌, subst, arith, inl, inr}
-use Rattle.std.specs.List.{fold, flat_map, list_any}
+use Rattle.std.proofs.Common.{◌≡◌, ◌⊎◌, ℕ, Bool, true, false, cond, eqb, eq-eqb, eqb-true, ◌||◌, List, [], ◌∷◌, ◌++◌, map, slice_get, slice_index, Some, bit_and, refl, ap, sym, ◌∙◌, subst, inl, inr}
+use Rattle.std.specs.List.{flat_map}
 use Rattle.std.specs.Int.{bit_at}
-use Rattle.std.proofs.lemmas.Bool.{and_parts, or_cases, or_left, or_right, cases_Bool, both_ways, ltb-true}
-use Rattle.std.proofs.lemmas.List.Elements.{All-head, All-tail}
+use Rattle.std.proofs.lemmas.Bool.{or_cases, or_left, or_right, both_ways}
 use Rattle.std.proofs.lemmas.List.Folds.{list_any-append}
 use Rattle.lattice_words.specs.Ladders.{shift_of, keep_align_of}
 use Rattle.attr_ids.specs.declared.ids.PosId.{PosId}
@@ -13,11 +12,10 @@ use Rattle.rule_terms.specs.declared.term.NewTerm.TheOpen.NewTerm-F.{Const, Word
 use Rattle.rule_terms.specs.declared.term.NewTerm.TheViews.{roll-NewTerm}
 use Rattle.rule_terms.specs.declared.term.NewTerm.TheFolds.{fold-roll-NewTerm, ind-NewTerm, map-NewTerm}
 use Rattle.rule_terms.specs.Meaning.{all_ones, layer_meaning, meaning, meet_of}
-use Rattle.rule_terms.specs.Names.{names_of, layer_names, has_name, with_name, with_names, is_over, is_layer_over}
+use Rattle.rule_terms.specs.Names.{names_of, layer_names, has_name, with_name, with_names}
 use Rattle.std.proofs.lemmas.Option.{none-some}
-use Rattle.rule_terms.specs.System.{System, IsSystem, terms_at, value, value_in, value_at, inputs_of, looked_word}
+use Rattle.rule_terms.specs.System.{System, terms_at, value_in, value_at, inputs_of, looked_word}
 use Rattle.rule_terms.proofs.Marked.{slice_get-push, has_name-at, same_position}
-use Rattle.rule_terms.proofs.Monotone.{terms-over}
 
 -- ---- lists of names
 -- a name of a list with more is a name of the list or of the more

@@ -1,6 +1,5 @@
 -- One more term in a pool.
-use Rattle.std.proofs.Common.{◌≡◌, ℕ, zero, suc, ◌+◌, ◌<◌, ◌≤◌, Bool, true, false, cond, ◌&&◌, List, [], ◌∷◌, ◌++◌, length, get_or, slice_get, Some, refl, ap, sym, ◌∙◌, subst, arith, append_assoc, length-append, nat_lt, append-nil, inl, inr}
-use Rattle.std.specs.List.{fold}
+use Rattle.std.proofs.Common.{◌≡◌, ℕ, ◌<◌, ◌≤◌, Bool, true, ◌&&◌, List, [], ◌∷◌, ◌++◌, length, slice_get, Some, refl, ap, sym, ◌∙◌, arith, append_assoc, length-append, nat_lt, append-nil, inl, inr}
 use Rattle.std.proofs.lemmas.Bool.{and_parts, and_from, ltb-true, lt-ltb}
 use Rattle.std.proofs.lemmas.List.Sums.{fold-append}
 use Rattle.std.proofs.lemmas.Option.{slice_get_within, get_or_from_slice_get}
@@ -11,11 +10,11 @@ use Rattle.rule_terms.specs.declared.term.Term.TheVariants as slot
 use Rattle.rule_terms.specs.declared.term.TermId.{TermId}
 use Rattle.rule_terms.specs.declared.term.NewTerm.{NewTerm}
 use Rattle.rule_terms.specs.declared.term.NewTerm.TheOpen.{NewTerm-F, NewTerm-F as new}
-use Rattle.rule_terms.specs.declared.term.NewTerm.TheViews.{roll-NewTerm, the_lemmas}
-use Rattle.rule_terms.specs.declared.term.NewTerm.TheFolds.{fold-roll-NewTerm, fold_out-NewTerm, map-NewTerm}
+use Rattle.rule_terms.specs.declared.term.NewTerm.TheViews.{roll-NewTerm}
+use Rattle.rule_terms.specs.declared.term.NewTerm.TheFolds.{fold-roll-NewTerm, map-NewTerm}
 use Rattle.rule_terms.specs.Names.{names_of, layer_names, with_name, with_names, is_over, is_layer_over}
-use Rattle.rule_terms.specs.Slots.{Numbered, const, word, both, either, unless, shift, keep_align, spread, nth, slot_term, slot_terms, named, input_at, is_numbered, AreOrdered, IsBehind}
-use Rattle.rule_terms.specs.Pool.{IsPool, IsGrown, GoesOn, Has}
+use Rattle.rule_terms.specs.Slots.{Numbered, const, word, both, either, unless, shift, keep_align, spread, nth, slot_term, slot_terms, named, is_numbered, AreOrdered, IsBehind}
+use Rattle.rule_terms.specs.Pool.{IsGrown, GoesOn, Has}
 use Rattle.rule_terms.proofs.Marked.{slice_get-push, slice_get-append_left}
 use Rattle.rule_terms.proofs.Slotted.{nth-grown, nth-pushed, is_numbered-more, named-grown}
 

@@ -1,5 +1,5 @@
 -- What a slot that is read tells of its parts.
-use Rattle.std.proofs.Common.{◌≡◌, ℕ, ◌<◌, Bool, true, ◌&&◌, List, length, get_or, slice_get, Some, ap, sym, ◌∙◌, arith, nat_lt, cond, eqb, eq-eqb, bit_and, bit_or, ◌/◌, ◌*◌, ◌%◌, ◌^◌, one-mul}
+use Rattle.std.proofs.Common.{◌≡◌, ℕ, ◌<◌, true, ◌&&◌, List, get_or, slice_get, Some, ap, sym, ◌∙◌, arith, nat_lt, cond, eqb, eq-eqb, bit_and, bit_or, ◌/◌, ◌*◌, ◌%◌, ◌^◌, one-mul}
 use Rattle.std.proofs.lemmas.Bool.{and_parts, ltb-true, cond-true, cond-false, ne_eqb}
 use Rattle.std.proofs.lemmas.Nat.Bits.{shr_and_one}
 use Rattle.std.specs.Int.{bit_at}
@@ -12,7 +12,7 @@ use Rattle.rule_terms.specs.declared.term.Term.TheVariants as slot
 use Rattle.rule_terms.specs.declared.term.TermId.{TermId}
 use Rattle.lattice_words.specs.declared.value.TheConstants.{ALL_BYTES}
 use Rattle.rule_terms.specs.Reads.{with_byte_bits}
-use Rattle.rule_terms.specs.Slots.{Numbered, const, word, both, either, unless, shift, keep_align, spread, nth, slot_term, slot_terms, is_numbered, AreOrdered, IsBehind, IsReadable}
+use Rattle.rule_terms.specs.Slots.{const, word, both, either, unless, shift, keep_align, spread, nth, slot_term, slot_terms, is_numbered, AreOrdered, IsBehind, IsReadable}
 use Rattle.rule_terms.proofs.Slotted.{nth-slot}
 
 module _ (slots : List Term) (ordered : AreOrdered slots) (count place : ℕ) (readable : IsReadable slots count place) where

@@ -1,5 +1,5 @@
 -- What a position's terms read, read from the slots.
-use Rattle.std.proofs.Common.{◌≡◌, ◌≢◌, ℕ, zero, suc, ◌+◌, ◌^◌, ◌<◌, Bool, true, false, cond, eqb, eq-eqb, eqb-true, ◌&&◌, List, [], ◌∷◌, length, map, get_or, slice_get, slice_index, Some, bit_and, bit_or, refl, ap, sym, ◌∙◌, subst, arith, nat_lt, inl, inr}
+use Rattle.std.proofs.Common.{◌≡◌, ℕ, zero, suc, ◌^◌, ◌<◌, true, cond, eqb, eq-eqb, ◌&&◌, List, [], ◌∷◌, length, map, slice_get, slice_index, Some, bit_or, refl, ap, sym, ◌∙◌, subst, nat_lt, inl, inr}
 use Rattle.std.specs.List.{fold}
 use Rattle.std.proofs.lemmas.Bool.{and_parts, ltb-true, cases_eq, ne_eqb}
 use Rattle.std.proofs.lemmas.Option.{slice_get-get_or}
@@ -8,7 +8,6 @@ use Rattle.rule_terms.specs.declared.rule.Rule.{Rule}
 use Rattle.rule_terms.specs.declared.system.System.TheInside.{Inside}
 use Rattle.rule_terms.specs.declared.term.Term.{Term}
 use Rattle.rule_terms.specs.declared.term.TermId.{TermId}
-use Rattle.rule_terms.specs.declared.term.NewTerm.{NewTerm}
 use Rattle.rule_terms.specs.declared.term.NewTerm.TheOpen.{NewTerm-F as new}
 use Rattle.rule_terms.specs.declared.term.NewTerm.TheFolds.{fold-roll-NewTerm}
 use Rattle.rule_terms.specs.Pool.{AreApart}

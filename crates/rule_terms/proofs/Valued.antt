@@ -1,17 +1,16 @@
 -- What a position's terms give, read from the slots.
-use Rattle.std.proofs.Common.{◌≡◌, ◌≢◌, ℕ, zero, suc, ◌+◌, ◌<◌, Bool, true, false, cond, eqb, eq-eqb, ◌&&◌, List, [], ◌∷◌, length, map, get_or, slice_get, slice_index, option_map, Some, bit_and, bit_or, refl, ap, sym, ◌∙◌, subst, arith, nat_lt}
-use Rattle.std.specs.List.{fold, flat_map}
+use Rattle.std.proofs.Common.{◌≡◌, ◌≢◌, ℕ, zero, suc, ◌<◌, true, cond, eqb, eq-eqb, ◌&&◌, List, [], ◌∷◌, length, map, slice_get, slice_index, option_map, Some, bit_and, refl, ap, sym, ◌∙◌, arith, nat_lt}
+use Rattle.std.specs.List.{flat_map}
 use Rattle.std.specs.Int.{bit_at}
 use Rattle.std.proofs.lemmas.Bool.{and_parts, ltb-true, cond-true, cond-false, ne_eqb}
-use Rattle.std.proofs.lemmas.Option.{slice_get-get_or, slice_get-map, get_or_from_slice_get, slice_get_within}
+use Rattle.std.proofs.lemmas.Option.{slice_get-get_or, slice_get-map, get_or_from_slice_get}
 use Rattle.lattice_words.specs.Ladders.{shift_of, keep_align_of}
 use Rattle.attr_ids.specs.declared.ids.PosId.{PosId}
 use Rattle.rule_terms.specs.declared.rule.Rule.{Rule}
 use Rattle.rule_terms.specs.declared.system.System.TheInside.{Inside}
 use Rattle.rule_terms.specs.declared.term.Term.{Term}
 use Rattle.rule_terms.specs.declared.term.TermId.{TermId}
-use Rattle.rule_terms.specs.declared.term.NewTerm.{NewTerm}
-use Rattle.rule_terms.specs.declared.term.NewTerm.TheOpen.{NewTerm-F, NewTerm-F as new}
+use Rattle.rule_terms.specs.declared.term.NewTerm.TheOpen.{NewTerm-F as new}
 use Rattle.rule_terms.specs.declared.term.NewTerm.TheFolds.{fold-roll-NewTerm}
 use Rattle.rule_terms.specs.Meaning.{all_ones, meaning, layer_meaning, meet_of}
 use Rattle.rule_terms.specs.Slots.{Numbered, const, word, both, either, unless, shift, keep_align, spread, nth, slot_terms, named, input_at, is_numbered, numbered_meaning, IsReadable}
@@ -19,7 +18,7 @@ use Rattle.rule_terms.specs.Names.{names_of, with_names}
 use Rattle.rule_terms.specs.Kept.{met_terms, term_at}
 use Rattle.rule_terms.specs.Meeting.{meet_places}
 use Rattle.rule_terms.specs.Inside.{shown, IsKept}
-use Rattle.rule_terms.specs.System.{System, terms_at, value, value_in, value_at, inputs_of, looked_word}
+use Rattle.rule_terms.specs.System.{System, terms_at, value, inputs_of, looked_word}
 
 module _ (inputs : List PosId) (words look : ℕ → ℕ) (agree : (n : ℕ) → n < length inputs → words (input_at inputs n).0 ≡ look n) where
   input_agrees : (n : ℕ) → nat_lt n (length inputs) ≡ true → words (input_at inputs n).0 ≡ look n

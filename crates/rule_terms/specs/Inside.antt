@@ -1,5 +1,5 @@
 -- A system by its fields.
-use Rattle.std.specs.Prelude.{◌≡◌, ℕ, ◌^◌, ◌<◌, [], length, map, All}
+use Rattle.std.specs.Prelude.{◌≡◌, ◌^◌, ◌<◌, [], length, map, All}
 use Rattle.rule_terms.specs.declared.system.System.TheInside.{Inside}
 use Rattle.rule_terms.specs.Kept.{met_terms, AreRules, IsMarkedAt}
 use Rattle.rule_terms.specs.Slots.{AreOrdered}

@@ -1,9 +1,8 @@
 -- What a system keeps, and what it shows of that.
-use Rattle.std.specs.Prelude.{◌≡◌, ℕ, ◌^◌, ◌<◌, true, List, [], ◌∷◌, ◌++◌, length, map, slice_get, Some, All}
+use Rattle.std.specs.Prelude.{◌≡◌, ℕ, true, List, [], length, map, slice_get, Some, All}
 use Rattle.std.specs.List.{flat_map}
 use Rattle.attr_ids.specs.declared.ids.PosId.{PosId}
 use Rattle.rule_terms.specs.declared.rule.Rule.{Rule}
-use Rattle.rule_terms.specs.declared.pool.Pool.{Pool}
 use Rattle.rule_terms.specs.declared.term.Term.{Term}
 use Rattle.rule_terms.specs.declared.term.TermId.{TermId}
 use Rattle.rule_terms.specs.declared.term.NewTerm.{NewTerm}

@@ -1,5 +1,5 @@
 -- What a term says of the words of positions.
-use Rattle.std.specs.Prelude.{ℕ, ◌+◌, ◌-◌, ◌^◌, ◌==◌, if◌then◌else◌, bit_and, bit_or, List, fold}
+use Rattle.std.specs.Prelude.{ℕ, ◌-◌, ◌^◌, ◌==◌, if◌then◌else◌, bit_and, bit_or, List, fold}
 use Rattle.std.specs.Int.{bit_at}
 use Rattle.lattice_words.specs.Ladders.{shift_of, keep_align_of}
 use Rattle.rule_terms.specs.declared.term.NewTerm.{NewTerm}

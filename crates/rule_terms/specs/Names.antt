@@ -1,6 +1,6 @@
 -- Which positions a term names.
 use Rattle.std.specs.Prelude.{ℕ, ◌==◌, Bool, true, if◌then◌else◌, ◌&&◌, nat_lt, List, [], ◌∷◌, ◌++◌, fold}
-use Rattle.std.specs.List.{list_any, flat_map}
+use Rattle.std.specs.List.{list_any}
 use Rattle.attr_ids.specs.declared.ids.PosId.{PosId}
 use Rattle.rule_terms.specs.declared.term.NewTerm.{NewTerm}
 use Rattle.rule_terms.specs.declared.term.NewTerm.TheOpen.{NewTerm-F}

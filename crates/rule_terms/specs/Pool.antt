@@ -1,8 +1,7 @@
 -- How one term is put into the slots of a system.
-use Rattle.std.specs.Prelude.{◌≡◌, ℕ, ◌^◌, ◌<◌, true, IsTrue, List, [], ◌∷◌, ◌++◌, length, slice_index, slice_get, Some}
+use Rattle.std.specs.Prelude.{◌≡◌, ℕ, ◌^◌, ◌<◌, true, List, ◌++◌, length, slice_index, slice_get, Some}
 use Rattle.attr_ids.specs.declared.ids.PosId.{PosId}
 use Rattle.rule_terms.specs.declared.pool.Pool.{Pool}
-use Rattle.rule_terms.specs.declared.term.Term.{Term}
 use Rattle.rule_terms.specs.declared.term.NewTerm.{NewTerm}
 use Rattle.rule_terms.specs.Slots.{AreOrdered, named, nth, is_numbered, slot_terms}
 

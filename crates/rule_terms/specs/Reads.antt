@@ -1,5 +1,5 @@
 -- Which bits of an input a term reads.
-use Rattle.std.specs.Prelude.{◌≡◌, ℕ, ◌^◌, ◌<◌, ◌==◌, if◌then◌else◌, bit_and, bit_or, slice_index, List, length}
+use Rattle.std.specs.Prelude.{◌≡◌, ℕ, ◌^◌, ◌<◌, ◌==◌, if◌then◌else◌, bit_and, bit_or, slice_index}
 use Rattle.std.specs.List.{fold}
 use Rattle.std.specs.Int.{bit_at}
 use Rattle.lattice_words.specs.declared.value.TheConstants.{ALL_BYTES}

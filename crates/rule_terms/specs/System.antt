@@ -1,9 +1,9 @@
 -- What a system is: a mask for each position, and the terms that were met into it.
-use Rattle.std.specs.Prelude.{◌≡◌, ℕ, ◌^◌, ◌<◌, ◌==◌, if◌then◌else◌, Bool, true, IsTrue, List, [], ◌∷◌, ◌++◌, length, map, slice_index, slice_index_or, slice_set, All, replicate}
-use Rattle.std.specs.List.{flat_map, list_all}
+use Rattle.std.specs.Prelude.{◌≡◌, ℕ, ◌^◌, ◌<◌, ◌==◌, if◌then◌else◌, IsTrue, List, [], ◌∷◌, ◌++◌, length, slice_index, slice_index_or, slice_set, All, replicate}
+use Rattle.std.specs.List.{flat_map}
 use Rattle.attr_ids.specs.declared.ids.PosId.{PosId}
 use Rattle.rule_terms.specs.declared.term.NewTerm.{NewTerm}
-use Rattle.rule_terms.specs.Meaning.{meaning, meet_of}
+use Rattle.rule_terms.specs.Meaning.{meet_of}
 use Rattle.rule_terms.specs.Names.{names_of, with_names, is_over}
 
 pub record System : Type 0 where

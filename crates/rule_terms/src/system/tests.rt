@@ -46,3 +46,85 @@ fn the_terms_of_a_position_are_met(rt: HostRuntime) -> Result<(), Fail> {
     assert_eq!(rt; system.eval(PosId(0), &[5]), 4);
     Ok(())
 }
+
+#[tactic(auto, using(crate::proofs::Equations::equations))]
+#[test]
+fn a_test_of_a_bit_gives_all_bits(rt: HostRuntime) -> Result<(), Fail> {
+    let mut system = three(rt.alloc())?;
+    let then = boxed(rt.alloc(), NewTerm::Word(PosId(2)))?;
+    let term = NewTerm::Unless {
+        input: PosId(1),
+        bit: 3,
+        then,
+    };
+    system.meet(rt.alloc(), PosId(0), term)?;
+    let inputs = system.inputs(PosId(0));
+    assert_eq!(rt; inputs.as_slice(), [PosId(1), PosId(2)].as_slice());
+    assert_eq!(rt; inputs.len(), 2);
+    assert_eq!(rt; system.eval(PosId(0), &[8, 5]), ALL);
+    assert_eq!(rt; system.eval(PosId(0), &[7, 5]), 5);
+    assert_eq!(rt; system.reads(PosId(0), 0), 8);
+    assert_eq!(rt; system.reads(PosId(0), 1), ALL);
+    Ok(())
+}
+
+#[tactic(auto, using(crate::proofs::Equations::equations))]
+#[test]
+fn either_part_or_both(rt: HostRuntime) -> Result<(), Fail> {
+    let mut system = three(rt.alloc())?;
+    let word = boxed(rt.alloc(), NewTerm::Word(PosId(0)))?;
+    let some = boxed(rt.alloc(), NewTerm::Const(12))?;
+    let both = boxed(rt.alloc(), NewTerm::And(word, some))?;
+    let other = boxed(rt.alloc(), NewTerm::Word(PosId(2)))?;
+    system.meet(rt.alloc(), PosId(1), NewTerm::Or(both, other))?;
+    let words = WordList::from_slice(rt.alloc(), &[7, 0, 1])?;
+    assert_eq!(rt; system.eval_in(PosId(1), &words), 5);
+    Ok(())
+}
+
+#[tactic(auto, using(crate::proofs::Equations::equations))]
+#[test]
+fn an_offset_moves_rungs_and_reads_all_of_them(rt: HostRuntime) -> Result<(), Fail> {
+    let masks = WordList::from_slice(rt.alloc(), &[1 << BYTES_1 | 1 << BYTES_4, ALL])?;
+    let mut system = System::new(rt.alloc(), masks)?;
+    assert_eq!(rt; system.count(), 2);
+    let of = boxed(rt.alloc(), NewTerm::Word(PosId(1)))?;
+    system.meet(rt.alloc(), PosId(0), NewTerm::Shift { bytes: 4, of })?;
+    assert_eq!(rt; system.inputs(PosId(0)).len(), 1);
+    assert_eq!(rt;
+        system.eval(PosId(0), &[1 << BYTES_8]),
+        1 << BYTES_1 | 1 << BYTES_4
+    );
+    assert_eq!(rt; system.eval(PosId(0), &[1 << BYTES_2]), 0);
+    assert_eq!(rt; system.reads(PosId(0), 0), ALL_BYTES);
+    Ok(())
+}
+
+#[tactic(auto, using(crate::proofs::Equations::equations))]
+#[test]
+fn a_step_keeps_what_divides_it(rt: HostRuntime) -> Result<(), Fail> {
+    let mut system = three(rt.alloc())?;
+    let of = boxed(rt.alloc(), NewTerm::Word(PosId(1)))?;
+    system.meet(rt.alloc(), PosId(2), NewTerm::KeepAlign { step: 2, of })?;
+    let words = WordList::from_slice(rt.alloc(), &[0, 1 << ALIGN_2 | 1 << ALIGN_4, 0])?;
+    assert_eq!(rt; system.eval_in(PosId(2), &words), 1 << ALIGN_2);
+    Ok(())
+}
+
+#[tactic(auto, using(crate::proofs::Equations::equations))]
+#[test]
+fn one_bit_is_spread(rt: HostRuntime) -> Result<(), Fail> {
+    let mut system = three(rt.alloc())?;
+    let of = boxed(rt.alloc(), NewTerm::Word(PosId(0)))?;
+    let term = NewTerm::Spread {
+        bit: 3,
+        to: 0xf0,
+        of,
+    };
+    system.meet(rt.alloc(), PosId(2), term)?;
+    assert_eq!(rt; system.inputs(PosId(2)).len(), 1);
+    assert_eq!(rt; system.eval(PosId(2), &[8]), 0xf0);
+    assert_eq!(rt; system.eval(PosId(2), &[7]), 0);
+    assert_eq!(rt; system.reads(PosId(2), 0), 8);
+    Ok(())
+}

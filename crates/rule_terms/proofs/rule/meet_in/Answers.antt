@@ -1,4 +1,4 @@
-use Rattle.std.proofs.Common.{◌≡◌, sym, ◌∙◌, take, drop, subst}
+use Rattle.std.proofs.Common.{sym, take, drop, subst}
 use Rattle.std.proofs.lemmas.List.{take-append-drop}
 use Rattle.rule_terms.specs.Pool.{IsMarked}
 use Rattle.rule_terms.proofs.Marked.{marked_front}

@@ -1,5 +1,4 @@
-use Rattle.std.proofs.Common.{◌≡◌, ◌<◌, ℕ, arith, sym, ◌∙◌, ap, bit_or}
-use Rattle.lattice_words.specs.declared.value.TheConstants.{ALL_BYTES}
+use Rattle.std.proofs.Common.{◌≡◌, ◌<◌, arith, sym, ◌∙◌, ap}
 use Rattle.rule_terms.specs.Slots.{nth, slot_terms}
 use Rattle.rule_terms.specs.SlotReads.{numbered_reads}
 use Rattle.rule_terms.proofs.Reading.{const_at, word_at, and_at, or_at, unless_at, shift_at, keep_align_at, spread_at, input_read, input_unread, unless_read, unless_unread, no_rung_wanted, rung_wanted, one_shl}

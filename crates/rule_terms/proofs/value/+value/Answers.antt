@@ -1,9 +1,8 @@
-use Rattle.std.proofs.Common.{◌≡◌, ◌<◌, ℕ, arith, sym, ◌∙◌, ap}
+use Rattle.std.proofs.Common.{◌≡◌, ◌<◌, arith, sym, ◌∙◌, ap}
 use Rattle.rule_terms.specs.Meaning.{all_ones}
-use Rattle.std.specs.Int.{bit_at}
 use Rattle.lattice_words.specs.Ladders.{shift_of, keep_align_of}
-use Rattle.rule_terms.specs.Looked.{input_word, input_count, HasWords}
-use Rattle.rule_terms.specs.Slots.{AreOrdered, IsReadable, nth, numbered_meaning, slot_terms}
+use Rattle.rule_terms.specs.Looked.{input_word, input_count}
+use Rattle.rule_terms.specs.Slots.{nth, numbered_meaning, slot_terms}
 use Rattle.rule_terms.proofs.Reading.{const_at, word_at, and_at, or_at, unless_at, shift_at, keep_align_at, spread_at, taken_branch, other_branch}
 use Rattle.rule_terms.proofs.value.+value.Goals as goal
 

@@ -1,10 +1,9 @@
-use Rattle.std.proofs.Common.{◌≡◌, refl, arith, sym, ◌∙◌, rules, length, ◌++◌, slice_get, Some, true}
-use Rattle.std.proofs.lemmas.Bool.{ltb-true}
-use Rattle.rule_terms.specs.Names.{names_of, layer_names, with_names, is_over}
+use Rattle.std.proofs.Common.{◌≡◌, rules, length, true}
+use Rattle.rule_terms.specs.Names.{names_of, is_over}
 use Rattle.rule_terms.specs.Pool.{Has}
 use Rattle.rule_terms.specs.declared.term.NewTerm.TheOpen.{NewTerm-F as new}
 use Rattle.rule_terms.specs.declared.term.NewTerm.TheViews.{roll-NewTerm, the_lemmas}
-use Rattle.rule_terms.proofs.Putting.{Pushes, has_stays, put_const, put_word, put_and, put_or, put_unless, put_shift, put_keep_align, put_spread, two_names, input_stays, over_and, over_or, over_unless, over_spread, names_and, names_or}
+use Rattle.rule_terms.proofs.Putting.{has_stays, put_const, put_word, put_and, put_or, put_unless, put_shift, put_keep_align, put_spread, two_names, input_stays, over_and, over_or, over_unless, over_spread, names_and, names_or}
 use Rattle.rule_terms.proofs.pool.Pool.+put.Goals as goal
 
 pub returns-in_ok-place-in-Const-clause-has : goal.returns-in_ok-place-in-Const-clause-has

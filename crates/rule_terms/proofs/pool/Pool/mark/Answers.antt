@@ -1,4 +1,4 @@
-use Rattle.std.proofs.Common.{◌≡◌, ◌<◌, ℕ, ◌∙◌, length, length-set, sym, arith, get_or, slice_get, Some}
+use Rattle.std.proofs.Common.{◌<◌, ◌∙◌, length, length-set, arith, get_or}
 use Rattle.std.proofs.lemmas.Option.{slice_get-get_or, slice_get_within}
 use Rattle.rule_terms.specs.Pool.{AreApart}
 use Rattle.rule_terms.proofs.Marked.{length-le_apart, mark_more}

@@ -1,6 +1,5 @@
 use Rattle.std.proofs.Common.{◌≡◌, ℕ, ◌<◌, slice_get, slice_index, Some}
 use Rattle.attr_ids.specs.declared.ids.PosId.{PosId}
-use Rattle.rule_terms.specs.declared.pool.Pool.{Pool}
 use Rattle.rule_terms.specs.Pool.{IsRemarked}
 use Rattle.rule_terms.proofs.pool.Pool.mark.Given as goal
 

@@ -1,4 +1,4 @@
-use Rattle.std.proofs.Common.{◌≡◌, refl, arith, sym, ◌∙◌, true, false, length, length-set, [], ◌∷◌, Some, slice_get}
+use Rattle.std.proofs.Common.{◌≡◌, refl, arith, sym, ◌∙◌, false, length, length-set, [], ◌∷◌, Some, slice_get}
 use Rattle.rule_terms.specs.Names.{has_name}
 use Rattle.rule_terms.proofs.Marked.{length-le_marked, not_input, IsMarked-push, has_name-at, slice_get-last, with_name-there, with_name-new}
 use Rattle.rule_terms.proofs.Putting.{grown_refl}

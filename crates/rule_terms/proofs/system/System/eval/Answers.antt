@@ -1,8 +1,7 @@
-use Rattle.std.proofs.Common.{◌≡◌, ◌<◌, ◌∙◌, sym, ap, subst, refl, arith, length, slice_get, slice_index, Some}
-use Rattle.rule_terms.specs.declared.rule.Rule.{Rule}
+use Rattle.std.proofs.Common.{◌≡◌, ◌∙◌, sym, ap, length, slice_get, slice_index, Some}
 use Rattle.rule_terms.specs.Kept.{IsRule}
-use Rattle.rule_terms.specs.Slots.{input_at, IsReadable}
-use Rattle.rule_terms.specs.System.{System, inputs_of, looked_word}
+use Rattle.rule_terms.specs.Slots.{input_at}
+use Rattle.rule_terms.specs.System.{inputs_of, looked_word}
 use Rattle.rule_terms.proofs.Keeping.{found_rule}
 use Rattle.rule_terms.proofs.Valued.{value-shown, inputs-shown, looked_word-at}
 use Rattle.rule_terms.proofs.system.System.eval.Goals as goal

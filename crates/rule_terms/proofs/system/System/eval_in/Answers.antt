@@ -1,8 +1,7 @@
-use Rattle.std.proofs.Common.{◌≡◌, ◌<◌, ◌∙◌, sym, ap, subst, refl, arith, length, slice_get, slice_index, Some}
-use Rattle.rule_terms.specs.declared.rule.Rule.{Rule}
+use Rattle.std.proofs.Common.{◌≡◌, ◌<◌, ◌∙◌, ap, refl, arith, length, slice_get, slice_index, Some}
 use Rattle.rule_terms.specs.Kept.{IsRule}
 use Rattle.rule_terms.specs.Slots.{input_at}
-use Rattle.rule_terms.specs.System.{System, value_in}
+use Rattle.rule_terms.specs.System.{System}
 use Rattle.rule_terms.proofs.Keeping.{found_rule}
 use Rattle.rule_terms.proofs.Valued.{value-shown}
 use Rattle.rule_terms.proofs.system.System.eval_in.Goals as goal

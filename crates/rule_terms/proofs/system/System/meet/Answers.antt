@@ -1,13 +1,10 @@
-use Rattle.std.proofs.Common.{◌≡◌, ◌⊎◌, true, sym, ◌∙◌, ap, subst, refl, length, slice_get, get_or, Some, inl, inr}
-use Rattle.std.proofs.lemmas.Option.{same_Some, slice_get_read}
-use Rattle.attr_ids.specs.declared.memory.NoMemory.{NoMemory}
+use Rattle.std.proofs.Common.{◌≡◌, true, sym, ◌∙◌, ap, subst, refl, length, inl, inr}
 use Rattle.rule_terms.specs.declared.system.System.TheInside.{Inside}
-use Rattle.rule_terms.specs.declared.rule.Rule.{Rule}
 use Rattle.rule_terms.specs.Names.{is_over}
-use Rattle.rule_terms.specs.Pool.{IsMarked, AreApart, IsGrown}
+use Rattle.rule_terms.specs.Pool.{AreApart, IsGrown}
 use Rattle.rule_terms.specs.Meeting.{Met, NotMet}
 use Rattle.rule_terms.specs.System.{System, with_term}
-use Rattle.rule_terms.specs.Inside.{shown, IsKept}
+use Rattle.rule_terms.specs.Inside.{shown}
 use Rattle.std.specs.Vec.{with_item}
 use Rattle.rule_terms.proofs.Keeping.{IsStep, found_rule, step_kept, step_met, step_unmet, told, on_ok, on_err}
 use Rattle.rule_terms.proofs.system.System.meet.Goals as goal

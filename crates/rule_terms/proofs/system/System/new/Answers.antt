@@ -1,4 +1,4 @@
-use Rattle.std.proofs.Common.{◌≡◌, ◌∙◌, sym, subst, length, arith}
+use Rattle.std.proofs.Common.{◌∙◌, sym, subst, length}
 use Rattle.rule_terms.specs.declared.system.System.TheInside.{Inside}
 use Rattle.rule_terms.specs.Kept.{AreEmptyRules}
 use Rattle.rule_terms.proofs.Keeping.{new_kept, new_shown}

@@ -1,5 +1,4 @@
 use Rattle.std.proofs.Common.{◌≡◌, ◌∙◌, length, slice_get, Some}
-use Rattle.rule_terms.specs.Kept.{IsRule}
 use Rattle.rule_terms.proofs.Keeping.{found_rule}
 use Rattle.rule_terms.proofs.ReadsShown.{reads-shown}
 use Rattle.rule_terms.proofs.system.System.reads.Goals as goal
