@@ -1,14 +1,16 @@
 -- The tokens that are read so far, and one more.
-use Rattle.std.proofs.Common.{◌≡◌, ℕ, ◌+◌, ◌-◌, ◌<◌, ◌≤◌, Bool, true, false, ◌⊎◌, List, [], ◌∷◌, ◌++◌, length, refl, sym, ap, ◌∙◌, subst, ⊎_elim, arith, length-append}
-use Rattle.attr_ids.specs.declared.insertion.Span.{Span}
+use Rattle.std.proofs.Common.{◌≡◌, ℕ, ◌+◌, ◌<◌, ◌≤◌, List, [], ◌∷◌, ◌++◌, length, refl, sym, ap, ◌∙◌, arith, length-append}
 use Rattle.ir_token.specs.declared.token.Kind.{Kind}
 use Rattle.ir_token.specs.declared.token.Token.{Token}
 use Rattle.ir_token.specs.Bytes.{Bytes, is_label}
-use Rattle.ir_token.specs.Texts.{IsToken, IsOpen, IsBad}
+use Rattle.ir_token.specs.Texts.{IsToken}
 use Rattle.ir_token.specs.LeftOut.{past_gap, IsLeft}
 use Rattle.ir_token.specs.Ends.{past}
-use Rattle.ir_token.specs.Lists.{Reaches}
-use Rattle.ir_token.proofs.Past.{past_later, past_within}
+use Rattle.ir_token.specs.Lists.{Reaches, IsWithin}
+use Rattle.std.specs.List.{All}
+use Rattle.std.proofs.lemmas.List.Elements.{All-nil, All-cons}
+use Rattle.ir_token.proofs.Unique.{token_moves}
+use Rattle.ir_token.proofs.Past.{past_later}
 
 -- the tokens up to a place, how many there are, and the list of them where that is no more than the limit
 pub record IsScanned (limit : ℕ) (b : Bytes) (items : List Token) (count at : ℕ) : Type 0 where
@@ -20,7 +22,7 @@ pub record IsScanned (limit : ℕ) (b : Bytes) (items : List Token) (count at : 
 abbrev pub make : Kind → ℕ → ℕ → Token
 make k i e = record { kind = k; span = record { from = i; to = e } }
 
-reaches_push : (b : Bytes) (ts : List Token) (from at : ℕ) (k : Kind) (e : ℕ) → Reaches b from ts at → IsToken b at k e → (IsLeft b at k e → ⊥) → Reaches b from (ts ++ make k at e ∷ []) (past_gap b e)
+pub reaches_push : (b : Bytes) (ts : List Token) (from at : ℕ) (k : Kind) (e : ℕ) → Reaches b from ts at → IsToken b at k e → (IsLeft b at k e → ⊥) → Reaches b from (ts ++ make k at e ∷ []) (past_gap b e)
 reaches_push b [] from at k e reach token kept = (reach, token, kept, refl)
 reaches_push b (t ∷ ts) from at k e reach token kept = (reach.0, reach.1, reach.2, reaches_push b ts t.span.to at k e reach.3 token kept)
 
@@ -49,3 +51,8 @@ scanned_counted limit b items count at k e full h token kept = record {
 -- the run of label bytes at a place is that of each later place within it
 pub run_stays : (b : Bytes) (at later run : ℕ) → at ≤ later → run ≡ past is_label b at → run ≤ length b → later < run → past is_label b later ≡ run
 run_stays b at later run from is within inside = past_later is_label b at later from (omega arith) (omega arith) ∙ sym is
+
+-- each token is a stretch of the text that is not empty
+pub spans_within : (b : Bytes) (ts : List Token) (at to : ℕ) → Reaches b at ts to → All (IsWithin b) ts
+spans_within b [] at to h = All-nil (IsWithin b)
+spans_within b (t ∷ ts) at to h = All-cons (IsWithin b) t ts (token_moves b t.span.from t.kind t.span.to h.1, h.1.within) (spans_within b ts t.span.to to h.3)

@@ -1,9 +1,9 @@
 -- The brackets that are open behind the first tokens, and the greatest number of them.
-use Rattle.std.proofs.Common.{◌≡◌, ℕ, zero, suc, ◌+◌, ◌-◌, ◌<◌, ◌≤◌, max, List, [], ◌∷◌, length, take, drop, get_or, refl, sym, ap, ◌∙◌, ⊎_elim, subst, add-one, arith, drop-cons}
+use Rattle.std.proofs.Common.{◌≡◌, ℕ, zero, suc, ◌+◌, ◌<◌, ◌≤◌, max, List, [], ◌∷◌, length, take, drop, get_or, refl, sym, ap, ⊎_elim, subst, add-one, arith, drop-cons}
 use Rattle.std.proofs.lemmas.Bool.{cases_lt}
 use Rattle.ir_token.specs.declared.token.Token.{Token}
 use Rattle.ir_token.specs.Bytes.{Bytes}
-use Rattle.ir_token.specs.Nesting.{mark_at, then_open, open_after, deepest, nesting_of}
+use Rattle.ir_token.specs.Nesting.{mark_at, then_open, open_after, deepest}
 
 pub depth_above : (b : Bytes) (o : ℕ) (ts : List Token) → o ≤ deepest b o ts
 depth_above b o [] = omega arith

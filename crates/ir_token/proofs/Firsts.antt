@@ -1,5 +1,5 @@
 -- Which kinds may begin with a byte, and that the longest of them is the token.
-use Rattle.std.proofs.Common.{◌≡◌, ℕ, suc, zero, ◌+◌, ◌-◌, ◌<◌, ◌≤◌, Bool, true, false, not, cond, ◌&&◌, ◌||◌, ◌⊎◌, inl, inr, eqb, ltb, List, length, get_or, refl, sym, ap, ◌∙◌, subst, ⊎_elim, arith}
+use Rattle.std.proofs.Common.{◌≡◌, ℕ, ◌+◌, ◌<◌, ◌≤◌, true, false, cond, ◌&&◌, ◌⊎◌, inl, inr, eqb, length, refl, sym, ap, ◌∙◌, subst, ⊎_elim, arith}
 use Rattle.std.proofs.lemmas.Bool.{cases_lt, cases_Bool}
 use Rattle.std.proofs.lemmas.Bool.Decides.{nat_tests}
 use Rattle.std.proofs.lemmas.List.{get_or_past}
@@ -8,8 +8,8 @@ use Rattle.std.specs.Char.{is_ascii_digit}
 use Rattle.ir_token.specs.declared.token.Kind.{Kind}
 use Rattle.ir_token.specs.declared.token.Kind.TheVariants.{Word, Global, Local, Comdat, Label, Int, Str, CStr, Group, Meta, Punct, Dots, Opaque}
 use Rattle.ir_token.specs.Bytes.{Bytes, begins_word, is_word, is_label, is_punct}
-use Rattle.ir_token.specs.Texts.{order, is_prefix}
-use Rattle.ir_token.specs.Ends.{past, string_end, begins, end_at, text_end, begins_opaque, lacks_quote, IsLongestEnd, IsTokenEnd}
+use Rattle.ir_token.specs.Texts.{order}
+use Rattle.ir_token.specs.Ends.{past, string_end, begins, end_at, text_end, begins_opaque, lacks_quote, IsTokenEnd}
 use Rattle.ir_token.proofs.Past.{past_within, past_moves, past_stays, past_mono, past_step, past_end}
 
 -- a text of kind k that is longer than each of the other kinds is the token

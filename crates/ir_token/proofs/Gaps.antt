@@ -1,10 +1,10 @@
 -- Blanks and comments, one byte after another.
-use Rattle.std.proofs.Common.{◌≡◌, ℕ, ◌+◌, ◌-◌, ◌<◌, ◌≤◌, Bool, true, false, not, cond, eqb, List, [], ◌∷◌, length, get_or, drop, refl, ap, add-one, arith, length-drop, drop-cons}
+use Rattle.std.proofs.Common.{◌≡◌, ℕ, ◌+◌, ◌<◌, ◌≤◌, Bool, true, false, not, cond, eqb, ◌∷◌, length, get_or, drop, refl, ap, add-one, arith, drop-cons}
 use Rattle.std.proofs.lemmas.List.{drop_all}
 use Rattle.std.proofs.lemmas.Bool.Decides.{nat_tests}
 use Rattle.std.specs.List.{slice_index}
 use Rattle.ir_token.specs.Bytes.{Bytes, is_blank}
-use Rattle.ir_token.specs.LeftOut.{gap_len, past_gap}
+use Rattle.ir_token.specs.LeftOut.{gap_len}
 
 front : (b : Bytes) (i : ℕ) → i < length b → drop i b ≡ get_or b i 0 ∷ drop (i + 1) b
 front b i h = rw (add-one i) (drop-cons b i 0 h)

@@ -1,15 +1,15 @@
 -- For each kind the end that is computed is that of a text of the kind, and no text of the kind ends beyond it.
-use Rattle.std.proofs.Common.{◌≡◌, ℕ, suc, zero, ◌+◌, ◌-◌, ◌<◌, ◌≤◌, Bool, true, false, not, cond, ◌&&◌, ◌||◌, ◌⊎◌, inl, inr, eqb, ltb, List, length, get_or, drop, refl, sym, ap, ◌∙◌, subst, ⊎_elim, arith}
+use Rattle.std.proofs.Common.{◌≡◌, ℕ, ◌+◌, ◌<◌, ◌≤◌, Bool, true, false, inl, inr, eqb, length, sym, ap, ◌∙◌, subst, ⊎_elim, arith}
 use Rattle.std.proofs.lemmas.Bool.{cases_lt, cases_Bool}
 use Rattle.std.proofs.lemmas.Bool.Decides.{nat_tests}
 use Rattle.std.specs.List.{slice_index}
 use Rattle.std.specs.Char.{is_ascii_digit}
 use Rattle.ir_token.specs.declared.token.Kind.{Kind}
 use Rattle.ir_token.specs.declared.token.Kind.TheVariants.{Word, Global, Local, Comdat, Label, Int, Str, CStr, Group, Meta, Punct, Dots, Opaque}
-use Rattle.ir_token.specs.Bytes.{Bytes, begins_word, is_word, is_label, is_meta, is_punct, is_inside, is_in_line, IsRun, EndsLine}
-use Rattle.ir_token.specs.Texts.{IsText, IsString, IsSome, IsName, IsNamed, BeginsOpaque}
-use Rattle.ir_token.specs.Ends.{past, string_end, name_end, prefixed, with_colon, begins, end_at, text_end, begins_opaque}
-use Rattle.ir_token.proofs.Past.{past_within, past_moves, past_stays, past_passes, past_stops, run_past, past_run, run_is_past, past_end}
+use Rattle.ir_token.specs.Bytes.{Bytes, begins_word, is_word, is_label, is_meta, is_punct, is_in_line, EndsLine}
+use Rattle.ir_token.specs.Texts.{IsText, IsString, IsSome, IsName, IsNamed}
+use Rattle.ir_token.specs.Ends.{past, string_end, name_end, prefixed, text_end, begins_opaque}
+use Rattle.ir_token.proofs.Past.{past_within, past_stops, run_past, past_run, run_is_past}
 use Rattle.ir_token.proofs.Meaning.{some_past, some_first, string_is, string_to, string_moves, name_is, name_to, name_moves, opaque_is, opaque_from, opaque_first}
 
 pub record IsGreatest (b : Bytes) (i : ℕ) (k : Kind) : Type 0 where

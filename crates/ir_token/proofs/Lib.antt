@@ -10,3 +10,4 @@ pub mod Escapes
 pub mod Rows
 pub mod Widths
 pub mod Chains
+pub mod Exists

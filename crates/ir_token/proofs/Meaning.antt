@@ -1,16 +1,14 @@
 -- The end that is computed for each kind is the greatest end of a text of that kind.
-use Rattle.std.proofs.Common.{◌≡◌, ℕ, suc, zero, ◌+◌, ◌-◌, ◌<◌, ◌≤◌, Bool, true, false, not, cond, ◌&&◌, ◌||◌, ◌⊎◌, inl, inr, eqb, ltb, List, length, get_or, drop, refl, sym, ap, ◌∙◌, subst, ⊎_elim, arith}
+use Rattle.std.proofs.Common.{◌≡◌, ℕ, suc, zero, ◌+◌, ◌-◌, ◌<◌, ◌≤◌, Bool, true, false, ◌&&◌, ◌⊎◌, inl, inr, eqb, length, refl, sym, ap, ◌∙◌, subst, ⊎_elim, arith}
 use Rattle.std.proofs.lemmas.Bool.{cases_lt, cases_Bool}
 use Rattle.std.proofs.lemmas.Bool.Decides.{nat_tests}
 use Rattle.std.proofs.lemmas.List.{get_or_past}
 use Rattle.std.specs.List.{slice_index}
 use Rattle.std.specs.Char.{is_ascii_digit}
-use Rattle.ir_token.specs.declared.token.Kind.{Kind}
-use Rattle.ir_token.specs.declared.token.Kind.TheVariants.{Word, Global, Local, Comdat, Label, Int, Str, CStr, Group, Meta, Punct, Dots, Opaque}
-use Rattle.ir_token.specs.Bytes.{Bytes, begins_word, is_word, is_label, is_meta, is_punct, is_inside, is_in_line, is_space, IsRun, BeginsLine, EndsLine, IsIndented}
-use Rattle.ir_token.specs.Texts.{IsText, IsString, IsSome, IsName, IsNamed, BeginsOpaque, IsUnclosed, LacksQuote, is_prefix}
-use Rattle.ir_token.specs.Ends.{past, string_end, name_end, prefixed, with_colon, begins, end_at, text_end, begins_opaque, begins_line, begins_record, is_indented, is_unclosed, lacks_quote}
-use Rattle.ir_token.proofs.Past.{past_within, past_moves, past_stays, past_passes, past_stops, run_past, past_run, run_is_past}
+use Rattle.ir_token.specs.Bytes.{Bytes, is_label, is_inside, is_space, IsRun, BeginsLine, IsIndented}
+use Rattle.ir_token.specs.Texts.{IsString, IsSome, IsName, BeginsOpaque, IsUnclosed, LacksQuote, is_prefix}
+use Rattle.ir_token.specs.Ends.{past, string_end, name_end, begins, begins_opaque, begins_line, begins_record, is_indented, is_unclosed, lacks_quote}
+use Rattle.ir_token.proofs.Past.{past_within, past_stops, run_past, past_run, run_is_past}
 
 -- a run that is not empty
 

@@ -1,18 +1,18 @@
 -- What is found by the ends at a place is the token there, or that none is there.
-use Rattle.std.proofs.Common.{◌≡◌, ℕ, ◌+◌, ◌<◌, ◌≤◌, Bool, true, false, ◌⊎◌, length, refl, sym, ⊎_elim, subst, arith}
+use Rattle.std.proofs.Common.{◌≡◌, ℕ, ◌<◌, ◌≤◌, Bool, true, false, length, refl, sym, ⊎_elim, subst, arith}
 use Rattle.std.proofs.lemmas.Bool.{cases_Bool}
 use Rattle.std.proofs.lemmas.Bool.Decides.{nat_tests}
 use Rattle.std.specs.List.{slice_index}
 use Rattle.ir_token.specs.declared.token.Kind.{Kind}
-use Rattle.ir_token.specs.declared.token.Kind.TheVariants.{Word, Global, Local, Comdat, Label, Int, Str, CStr, Group, Meta, Punct, Dots, Opaque}
+use Rattle.ir_token.specs.declared.token.Kind.TheVariants.{Opaque}
 use Rattle.ir_token.specs.declared.found.Found.{Found}
 use Rattle.ir_token.specs.declared.found.Found.TheVariants.{Token, Bad, Open}
 use Rattle.ir_token.specs.Bytes.{Bytes, is_in_line}
-use Rattle.ir_token.specs.Texts.{order, IsText, BeginsOpaque, LacksQuote, IsToken, IsOpen, IsBad}
-use Rattle.ir_token.specs.Ends.{past, text_end, begins_opaque, lacks_quote, IsLongestEnd, IsTokenEnd, IsOpenEnd, IsBadEnd, StandsByEnds, Stands}
+use Rattle.ir_token.specs.Texts.{order, IsText, IsToken}
+use Rattle.ir_token.specs.Ends.{past, text_end, begins_opaque, lacks_quote, IsLongestEnd, IsTokenEnd, StandsByEnds, Stands}
 use Rattle.ir_token.proofs.Past.{past_moves}
-use Rattle.ir_token.proofs.Meaning.{opaque_is, opaque_from, opaque_first, lacks_is, lacks_from}
-use Rattle.ir_token.proofs.Greatest.{IsGreatest, greatest, text_moves}
+use Rattle.ir_token.proofs.Meaning.{opaque_from, opaque_first, lacks_is, lacks_from}
+use Rattle.ir_token.proofs.Greatest.{greatest, text_moves}
 
 -- a test that is false of what holds
 refuted : (t : Bool) → t ≡ true → t ≡ false → ⊥

@@ -1,17 +1,16 @@
 -- A text has one token at a place at most, and so one list, and one place at which it is refused.
-use Rattle.std.proofs.Common.{◌≡◌, ℕ, zero, suc, ◌+◌, ◌<◌, ◌≤◌, Bool, true, false, cond, ◌⊎◌, inl, inr, eqb, List, [], ◌∷◌, ◌++◌, length, refl, sym, ap, ◌∙◌, subst, ⊎_elim, arith}
+use Rattle.std.proofs.Common.{◌≡◌, ℕ, ◌<◌, ◌≤◌, false, cond, ◌⊎◌, inl, inr, eqb, List, [], ◌∷◌, length, refl, sym, ap, ◌∙◌, subst, ⊎_elim, arith}
 use Rattle.std.proofs.lemmas.Bool.{cases_lt}
 use Rattle.std.proofs.lemmas.Bool.Decides.{nat_tests}
 use Rattle.std.specs.List.{slice_index}
-use Rattle.attr_ids.specs.declared.insertion.Span.{Span}
 use Rattle.ir_token.specs.declared.token.Kind.{Kind}
 use Rattle.ir_token.specs.declared.token.Kind.TheVariants.{Word, Global, Local, Comdat, Label, Int, Str, CStr, Group, Meta, Punct, Dots, Opaque}
 use Rattle.std.proofs.Common.{Result}
 use Rattle.ir_token.specs.declared.token.LexRefusal.{LexRefusal}
 use Rattle.ir_token.specs.declared.token.Token.{Token}
 use Rattle.ir_token.specs.Bytes.{Bytes, is_in_line, IsRun, EndsLine}
-use Rattle.ir_token.specs.Texts.{order, IsText, BeginsOpaque, LacksQuote, IsToken, IsOpen, IsBad}
-use Rattle.ir_token.specs.LeftOut.{past_gap, IsLeft}
+use Rattle.ir_token.specs.Texts.{order, IsText, LacksQuote, IsToken, IsOpen, IsBad}
+use Rattle.ir_token.specs.LeftOut.{IsLeft}
 use Rattle.ir_token.specs.Ends.{past}
 use Rattle.ir_token.specs.Lists.{Reaches, AreTokens, IsReached, Reading, Reads, Tells}
 use Rattle.ir_token.specs.Lists.Reading.{Listed, BadAt, OpenAt, LeftAt}
@@ -20,10 +19,10 @@ use Rattle.ir_token.proofs.Firsts.{within_if}
 use Rattle.ir_token.proofs.Greatest.{text_moves}
 
 -- the kind at a place of the order
-kind_at : ℕ → Kind
+unfoldable pub kind_at : ℕ → Kind
 kind_at n = cond (eqb n 0) Opaque (cond (eqb n 1) Label (cond (eqb n 2) Global (cond (eqb n 3) Local (cond (eqb n 4) Comdat (cond (eqb n 5) Str (cond (eqb n 6) CStr (cond (eqb n 7) Group (cond (eqb n 8) Meta (cond (eqb n 9) Int (cond (eqb n 10) Word (cond (eqb n 11) Dots Punct)))))))))))
 
-kind_at-order : (k : Kind) → kind_at (order k) ≡ k
+pub kind_at-order : (k : Kind) → kind_at (order k) ≡ k
 unfolding kind_at
 kind_at-order Opaque = refl
 kind_at-order Label = refl
@@ -39,7 +38,7 @@ kind_at-order Word = refl
 kind_at-order Dots = refl
 kind_at-order Punct = refl
 
-same_kind : (k j : Kind) → order k ≡ order j → k ≡ j
+pub same_kind : (k j : Kind) → order k ≡ order j → k ≡ j
 same_kind k j same = sym (kind_at-order k) ∙ ap kind_at same ∙ kind_at-order j
 
 opaque_or : (k : Kind) → (k ≡ Opaque) ⊎ (k ≡ Opaque → ⊥)

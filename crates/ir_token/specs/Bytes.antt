@@ -1,7 +1,7 @@
 -- Bytes of a text, their classes, and runs of one class. A place is an index into the whole text; a byte past its end
 -- reads as 0, which is in no class that a token can begin with.
-use Rattle.std.specs.Prelude.{◌≡◌, ℕ, ◌+◌, ◌-◌, ◌<◌, ◌≤◌, Bool, true, false, not, ◌&&◌, ◌||◌, ◌⊎◌, ◌==◌, List, [], ◌∷◌, length, slice_index}
-use Rattle.std.specs.Char.{is_ascii_digit, is_ascii_alphabetic, is_ascii_alphanumeric}
+use Rattle.std.specs.Prelude.{◌≡◌, ℕ, ◌+◌, ◌-◌, ◌<◌, ◌≤◌, Bool, true, not, ◌||◌, ◌⊎◌, ◌==◌, List, [], ◌∷◌, length, slice_index}
+use Rattle.std.specs.Char.{is_ascii_alphabetic, is_ascii_alphanumeric}
 
 abbrev pub Bytes : Type 0
 Bytes = List ℕ

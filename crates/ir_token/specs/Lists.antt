@@ -1,6 +1,5 @@
 -- The token list of a text, and what a text is read as: its list, or the first place at which it is refused.
-use Rattle.std.specs.Prelude.{◌≡◌, ℕ, ◌<◌, ◌≤◌, ◌⊎◌, List, [], ◌∷◌, length, Result, Ok, Err}
-use Rattle.attr_ids.specs.declared.insertion.Span.{Span}
+use Rattle.std.specs.Prelude.{◌≡◌, ℕ, ◌<◌, ◌≤◌, List, [], ◌∷◌, length, Result, Ok, Err}
 use Rattle.ir_token.specs.declared.token.Kind.{Kind}
 use Rattle.ir_token.specs.declared.token.Token.{Token}
 use Rattle.ir_token.specs.declared.token.LexRefusal.{LexRefusal}
@@ -19,6 +18,10 @@ Reaches b at (t ∷ ts) to = (t.span.from ≡ past_gap b at) × IsToken b t.span
 -- the tokens of the whole text
 abbrev pub AreTokens : Bytes → List Token → Type 0
 AreTokens b ts = Reaches b 0 ts (length b)
+
+-- the token has a byte, and ends in the text
+abbrev pub IsWithin : Bytes → Token → Type 0
+IsWithin b t = (t.span.from < t.span.to) × (t.span.to ≤ length b)
 
 -- every byte before `at` is in a token that is not left out, in a blank or in a comment, and the next token would begin at `at`
 abbrev pub IsReached : Bytes → ℕ → Type 0

@@ -1,5 +1,5 @@
 -- Names, and what a string is read as.
-use Rattle.std.specs.Prelude.{◌≡◌, ℕ, zero, suc, ◌+◌, ◌-◌, ◌*◌, ◌<◌, Bool, ◌&&◌, if◌then◌else◌, ◌==◌, List, [], ◌∷◌, length, slice_index, take, drop}
+use Rattle.std.specs.Prelude.{ℕ, zero, suc, ◌+◌, ◌-◌, ◌*◌, Bool, ◌&&◌, if◌then◌else◌, ◌==◌, [], ◌∷◌, length, slice_index, take, drop}
 use Rattle.std.specs.Char.{is_digit, digit_value}
 use Rattle.ir_token.specs.Bytes.{Bytes}
 

@@ -1,5 +1,5 @@
 -- How many brackets are open at once.
-use Rattle.std.specs.Prelude.{◌≡◌, ℕ, ◌+◌, ◌-◌, max, Bool, ◌||◌, if◌then◌else◌, ◌==◌, List, [], ◌∷◌, slice_index}
+use Rattle.std.specs.Prelude.{ℕ, ◌+◌, ◌-◌, max, ◌||◌, if◌then◌else◌, ◌==◌, List, [], ◌∷◌, slice_index}
 use Rattle.std.specs.List.{fold}
 use Rattle.ir_token.specs.declared.token.Kind.{Kind}
 use Rattle.ir_token.specs.declared.token.Kind.TheVariants.{Punct}

@@ -1,5 +1,5 @@
 //! Laws of the definitions: each has no parameter and an empty body, and its contract is the law.
-ghost use Rattle.std.specs.Prelude.{◌≡◌, ◌≤◌, List, take, ℕ};
+ghost use Rattle.std.specs.Prelude.{◌≡◌, ◌≤◌, All, List, take, ℕ};
 ghost use Rattle.ir_token.specs.declared.token.Token.{Token};
 ghost use Rattle.ir_token.specs.Lists as spec;
 ghost use Rattle.ir_token.specs.Nesting.{open_after, nesting_of};
@@ -7,6 +7,16 @@ ghost use Rattle.ir_token.specs.Nesting.{open_after, nesting_of};
 /// A text has at most one token list.
 pub fn one_token_list()
     ensures { (b : List ℕ) (ts us : List Token) → spec.AreTokens b ts → spec.AreTokens b us → ts ≡ us }
+{}
+
+/// Each token of a text has a byte, and ends in the text.
+pub fn tokens_are_within()
+    ensures { (b : List ℕ) (ts : List Token) → spec.AreTokens b ts → All (spec.IsWithin b) ts }
+{}
+
+/// A text is read as something: its list, or a place at which it is refused.
+pub fn some_reading()
+    ensures { (b : List ℕ) → (x : spec.Reading) × spec.Reads b x }
 {}
 
 /// A text is read as one thing at most: its list, or the one place at which it is refused.

@@ -17,7 +17,7 @@ mod token;
 mod words;
 
 pub use brackets::nesting;
-pub use laws::{nesting_is_greatest, one_reading, one_token_list};
+pub use laws::{nesting_is_greatest, one_reading, one_token_list, some_reading, tokens_are_within};
 pub use scan::tokens;
 pub use token::{Kind, LexRefusal, Token, Tokens};
 

@@ -16,7 +16,7 @@ pub enum Kind {
     Local,
     /// `$` and a name.
     Comdat,
-    /// A name without digits alone in front, or a string, and a colon.
+    /// Letters, digits, `$`, `.`, `_` and `-`, or a string, and a colon.
     Label,
     /// Digits, with or without `-` before them.
     Int,

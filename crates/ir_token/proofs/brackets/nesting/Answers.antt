@@ -1,4 +1,4 @@
-use Rattle.std.proofs.Common.{◌≡◌, ℕ, ◌≤◌, ◌+◌, max, drop, subst, sym, arith}
+use Rattle.std.proofs.Common.{◌≡◌, ◌≤◌, ◌+◌, max, drop, subst, sym, arith}
 use Rattle.ir_token.specs.declared.token.Kind.TheVariants.{Word}
 use Rattle.ir_token.specs.Nesting.{deepest, then_open}
 use Rattle.ir_token.proofs.Depth.{depth_more, depth_above}

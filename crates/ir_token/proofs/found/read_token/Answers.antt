@@ -1,4 +1,4 @@
-use Rattle.std.proofs.Common.{◌≡◌, ◌+◌, true, ◌∙◌, ap, sym, subst}
+use Rattle.std.proofs.Common.{◌≡◌, ◌+◌, ◌∙◌, ap, sym, subst}
 use Rattle.std.specs.List.{slice_index}
 use Rattle.ir_token.specs.declared.token.Kind.TheVariants.{Label}
 use Rattle.ir_token.specs.Bytes.{is_label}

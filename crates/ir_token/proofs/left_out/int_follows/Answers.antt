@@ -1,4 +1,4 @@
-use Rattle.std.proofs.Common.{◌≡◌, ℕ, Bool, true, false, subst, sym}
+use Rattle.std.proofs.Common.{◌≡◌, ℕ, true, false, subst, sym}
 use Rattle.ir_token.specs.declared.token.Kind.TheVariants.{Int}
 use Rattle.ir_token.specs.Texts.{IsToken}
 use Rattle.ir_token.proofs.Unique.{not_bad}

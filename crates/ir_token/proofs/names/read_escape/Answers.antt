@@ -1,6 +1,5 @@
-use Rattle.std.proofs.Common.{◌≡◌, ℕ, ◌+◌, ◌<◌, ◌≤◌, ◌⊎◌, ◌∙◌, ap, sym, inl, inr, ⊎_elim, min, arith, length}
+use Rattle.std.proofs.Common.{◌≡◌, ℕ, ◌<◌, ◌≤◌, ◌⊎◌, ◌∙◌, ap, inl, inr, ⊎_elim, min, arith}
 use Rattle.std.proofs.lemmas.Bool.Decides.{nat_tests}
-use Rattle.std.specs.List.{slice_index}
 use Rattle.std.specs.Char.{digit_value}
 use Rattle.ir_token.proofs.Escapes.{read_hex, read_lone}
 use Rattle.ir_token.proofs.names.read_escape.Goals as goal

@@ -1,4 +1,4 @@
-use Rattle.std.proofs.Common.{◌≡◌, ℕ, ◌+◌, ◌<◌, ◌≤◌, Bool, true, false, List, length, Ok, Err, refl, sym, ap, ◌∙◌, subst, arith}
+use Rattle.std.proofs.Common.{◌≡◌, ◌+◌, ◌<◌, ◌≤◌, Bool, true, false, length, Ok, Err, refl, sym, ap, ◌∙◌, subst, arith}
 use Rattle.ir_token.specs.declared.TheConstants.{MAX_TOKENS}
 use Rattle.ir_token.specs.declared.token.LexRefusal.TheVariants.{BadByte, OpenString, LeftOut, TooMany}
 use Rattle.ir_token.specs.Bytes.{is_label}
