@@ -2,8 +2,6 @@
 ghost use Rattle.std.specs.Prelude.{◌≡◌, ◌<◌, ◌≤◌, length, IfOk, Err, ℕ, List};
 ghost use Rattle.ir_token.specs.declared.TheConstants.{MAX_BYTES};
 ghost use Rattle.attr_ids.specs.declared.insertion.Span.{Span};
-ghost use Rattle.ir_token.specs.Texts.{IsToken, IsBad, IsOpen};
-ghost use Rattle.ir_token.specs.LeftOut.{IsLeft};
 ghost use Rattle.ir_token.specs.Lists as spec;
 
 use crate::MAX_TOKENS;
@@ -20,13 +18,15 @@ pub fn tokens(alloc: Global, text: &[u8]) -> Result<Tokens, LexRefusal>
     requires { length text.now ≤ MAX_BYTES }
     ensures list { IfOk result (λ toks. spec.AreTokens text.now toks) }
     ensures few { IfOk result (λ toks. length toks ≤ MAX_TOKENS) }
-    ensures bad_byte { (at : ℕ) → result ≡ Err (LexRefusal.BadByte at) → spec.IsReached text.now at × IsBad text.now at }
-    ensures open_string { (at : ℕ) → result ≡ Err (LexRefusal.OpenString at) → spec.IsReached text.now at × IsOpen text.now at }
-    ensures left_out { (word : Span) → result ≡ Err (LexRefusal.LeftOut word) → spec.Reads text.now (spec.LeftAt word.from word.to) }
-    ensures too_many { (count : ℕ) → result ≡ Err (LexRefusal.TooMany count) → (ts : List Token) × (spec.AreTokens text.now ts × (length ts ≡ count) × (MAX_TOKENS < count)) }
+    ensures bad_byte { (at : ℕ) → result ≡ Err (LexRefusal.BadByte at) → spec.Reads text.now (spec.BadAt at) }
+    ensures open_string { (at : ℕ) → result ≡ Err (LexRefusal.OpenString at) → spec.Reads text.now (spec.OpenAt at) }
+    ensures left_out { (word : Span) → result ≡ Err (LexRefusal.LeftOut word)
+        → spec.Reads text.now (spec.LeftAt word.from word.to) }
+    ensures too_many { (count : ℕ) → result ≡ Err (LexRefusal.TooMany count)
+        → (ts : List Token) × (spec.AreTokens text.now ts × (length ts ≡ count) × (MAX_TOKENS < count)) }
 
     // Whatever the text is read as, the answer tells it, or that no memory was left.
-    ensures only { (reading : spec.Reading) → spec.Reads text.now reading → spec.Tells result reading }
+    ensures only { (x : spec.Reading) → spec.Reads text.now x → spec.Tells result x }
 {
     let mut items = Vec::new(alloc);
     let mut count = 0;
