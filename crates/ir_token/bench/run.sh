@@ -9,7 +9,7 @@ mkdir -p "$scratch/crates/token_bench/src"
 root=$(cd "$here/../../.." && pwd)
 cp -r "$root/crates/attr_ids" "$root/crates/ir_token" "$scratch/crates/"
 printf 'attr_ids:\nir_token: attr_ids thiserror\ntoken_bench: ir_token\n' > "$scratch/crates.txt"
-cp "$here/proved.rt" "$scratch/crates/token_bench/src/main.rt"
+cp "$here/proved.rattle" "$scratch/crates/token_bench/src/main.rt"
 python3 "$here/make_text.py" "$size" > "$scratch/crates/token_bench/text.ll"
 rustc -O --edition 2024 -o "$scratch/plain" "$here/plain.rs"
 "$scratch/plain" "$scratch/crates/token_bench/text.ll" 5
