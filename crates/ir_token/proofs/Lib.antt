@@ -1,0 +1,13 @@
+pub mod Past
+pub mod Gaps
+pub mod Meaning
+pub mod Greatest
+pub mod Standing
+pub mod Firsts
+pub mod Unique
+pub mod Depth
+pub mod Escapes
+pub mod Rows
+pub mod Widths
+pub mod Chains
+pub mod Exists
