@@ -21,6 +21,7 @@ mod tests {
         let text =
             b"declare void @x() nounwind define void @f() { call void @f() call void @x() ret void }";
         let module = module_of(rt.alloc(), text)?;
+        assert_eq!(rt; module.funcs.len(), 2);
         let words = WordList::from_slice(rt.alloc(), &[0, 1])?;
         let added = insertions(rt.alloc(), &module, &words)?;
         let added = added.as_slice();
