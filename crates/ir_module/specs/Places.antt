@@ -1,0 +1,44 @@
+-- The places of a module's instructions.
+use Rattle.std.specs.Prelude.{◌≡◌, ◌+◌, ℕ, slice_get, Option, None, Some}
+use Rattle.ir_module.specs.declared.op.Instr.{Instr}
+use Rattle.ir_module.specs.declared.module.Seg.{Seg}
+use Rattle.ir_module.specs.declared.module.Block.{Block}
+use Rattle.ir_module.specs.declared.module.Func.{Func}
+use Rattle.ir_module.specs.declared.module.Module.{Module}
+
+-- instruction number `at` of the segment number `seg`; segments are counted through the whole module
+pub record Spot : Type 0 where
+  pub seg : ℕ
+  pub at : ℕ
+
+abbrev pub in_seg : ℕ → Option Seg → Option Instr
+in_seg at None = None
+in_seg at (Some seg) = slice_get seg.instrs at
+
+-- the instruction at a spot, where there is one
+unfoldable pub instr_at : Module → Spot → Option Instr
+instr_at m s = in_seg s.at (slice_get m.segs s.seg)
+
+-- the spot lies in a block of the function f
+pub record IsIn (m : Module) (f : ℕ) (s : Spot) : Type 0 where
+  pub seg : Seg
+  pub block : Block
+  pub at_seg : slice_get m.segs s.seg ≡ Some seg
+  pub at_block : slice_get m.blocks seg.block.0 ≡ Some block
+  pub in_func : block.func.0 ≡ f
+
+abbrev pub first_block_in : Option Func → ℕ
+first_block_in None = 0
+first_block_in (Some f) = f.first_block
+
+abbrev pub first_seg_in : Option Block → ℕ
+first_seg_in None = 0
+first_seg_in (Some b) = b.first_seg
+
+-- where a body begins: the first instruction of the first segment of its first block
+unfoldable pub entry_of : Module → ℕ → Spot
+entry_of m f = record { seg = first_seg_in (slice_get m.blocks (first_block_in (slice_get m.funcs f))); at = 0 }
+
+-- where a body goes on behind a call: a call ends its segment, so it is where the next one begins
+abbrev pub behind_call : Spot → Spot
+behind_call s = record { seg = s.seg + 1; at = 0 }
