@@ -1,0 +1,9 @@
+pub use Rattle.ir_module.specs.Places
+pub use Rattle.ir_module.specs.Calls
+pub use Rattle.ir_module.specs.Formed
+pub mod Frames
+pub mod Machine
+pub mod Runs
+pub mod Meanings
+pub mod Links
+pub mod Sample

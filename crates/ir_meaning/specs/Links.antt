@@ -1,0 +1,50 @@
+-- How the frames of a stack are linked to each other.
+use Rattle.std.specs.Prelude.{◌≡◌, ℕ, true, if◌then◌else◌, List, [], ◌∷◌, Option, None, Some}
+use Rattle.ir_module.specs.declared.op.Op.{Op}
+use Rattle.ir_module.specs.declared.op.Op.TheVariants as op
+use Rattle.ir_module.specs.declared.op.Instr.{Instr}
+use Rattle.ir_module.specs.declared.module.Module.{Module}
+use Rattle.ir_module.specs.Places.{instr_at, IsIn}
+use Rattle.ir_module.specs.Calls.{callee_of, is_inner, is_open}
+use Rattle.ir_meaning.specs.Frames.{Made, Lowest, Entered, At, Active, active, Frame, Body, Outside}
+
+-- the call instruction runs this body, or none where it is outer
+abbrev pub CallsBody : Module → Option ℕ → Op → Type 0
+CallsBody m body (op.Call callee words places) = body ≡ (if is_inner m callee then Some (callee_of callee) else None)
+CallsBody m body (op.Ret val) = ⊥
+
+abbrev pub CallsBodyIn : Module → Option ℕ → Option Instr → Type 0
+CallsBodyIn m body None = ⊥
+CallsBodyIn m body (Some instr) = CallsBody m body instr.op
+
+abbrev pub BeginsAs : Module → Option ℕ → Made → Type 0
+BeginsAs m body Lowest = body ≡ None
+BeginsAs m body Entered = (f : ℕ) × (body ≡ Some f) × (is_open m f ≡ true)
+BeginsAs m body (At spot) = CallsBodyIn m body (instr_at m spot)
+
+-- A call runs what its beginning says: the lowest one the outside, one that the outside entered an open body,
+-- one that was made at an instruction what that instruction calls.
+abbrev pub RunsItsCallee : Module → Active → Type 0
+RunsItsCallee m a = BeginsAs m a.body a.call.made
+
+-- a module frame stands in the function that it runs
+abbrev pub StandsInIt : Module → Frame → Type 0
+StandsInIt m (Body call func spot) = IsIn m func spot
+StandsInIt m (Outside call) = Unit {0}
+
+-- a call on a module frame was made where that frame stands, and one on an outside frame was entered by it
+abbrev pub IsMadeBy : Frame → Frame → Type 0
+IsMadeBy top (Body call func spot) = (active top).call.made ≡ At spot
+IsMadeBy top (Outside call) = (active top).call.made ≡ Entered
+
+abbrev pub IsPlaced : Module → Frame → Type 0
+IsPlaced m frame = RunsItsCallee m (active frame) × StandsInIt m frame
+
+abbrev pub AreLinked : Module → Frame → List Frame → Type 0
+AreLinked m top [] = IsPlaced m top × ((active top).call.made ≡ Lowest)
+AreLinked m top (under ∷ below) = IsPlaced m top × IsMadeBy top under × AreLinked m under below
+
+-- each frame was made by the one below it, down to the lowest one
+abbrev pub IsLinked : Module → List Frame → Type 0
+IsLinked m [] = ⊥
+IsLinked m (top ∷ below) = AreLinked m top below
