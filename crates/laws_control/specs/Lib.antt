@@ -1,0 +1,10 @@
+pub use Rattle.ir_meaning.specs.Places
+pub use Rattle.ir_meaning.specs.Calls
+pub use Rattle.ir_meaning.specs.Formed
+pub use Rattle.ir_meaning.specs.Frames
+pub use Rattle.ir_meaning.specs.Machine
+pub use Rattle.ir_meaning.specs.Runs
+pub use Rattle.ir_meaning.specs.Meanings
+pub use Rattle.ir_meaning.specs.Links
+pub use Rattle.positions.specs.Facts
+pub mod Soundness

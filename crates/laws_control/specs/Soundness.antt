@@ -1,0 +1,41 @@
+-- What the facts of a module and the words at its calls say of a run.
+use Rattle.std.specs.Prelude.{◌≡◌, ℕ, Bool, true, List, Some}
+use Rattle.ir_module.specs.declared.op.Op.TheVariants as op
+use Rattle.ir_module.specs.declared.op.Written.{Written}
+use Rattle.ir_module.specs.declared.op.CallWords.{CallWords}
+use Rattle.ir_module.specs.declared.op.CallPlaces.{CallPlaces}
+use Rattle.ir_module.specs.declared.module.Module.{Module}
+use Rattle.ir_module.specs.Places.{Spot, instr_at}
+use Rattle.ir_module.specs.Calls.{Promise, Nounwind, callee_of, is_inner}
+use Rattle.ir_meaning.specs.declared.choice.Choice.{Choice}
+use Rattle.ir_meaning.specs.Frames.{At, Active, State}
+use Rattle.ir_meaning.specs.Runs.{Done, IsOpening, run}
+use Rattle.ir_meaning.specs.Meanings.{HoldsOf, IsHonest}
+use Rattle.positions.specs.declared.pos.Pos.{Pos}
+use Rattle.positions.specs.declared.pos.Pos.TheVariants as pos
+use Rattle.positions.specs.Facts.{Fact, nounwind_of}
+
+-- a word at a function holds of every call that runs its body
+abbrev pub HoldsOfBody : Promise → ℕ → List Done → Type 0
+HoldsOfBody p f steps = (a : Active) → a.body ≡ Some f → HoldsOf p a steps
+
+-- a word at a call instruction holds of every call that is made there
+abbrev pub HoldsAt : Promise → Spot → List Done → Type 0
+HoldsAt p s steps = (a : Active) → a.call.made ≡ At s → HoldsOf p a steps
+
+abbrev pub HoldsAtPos : Pos → List Done → Type 0
+HoldsAtPos (pos.Function f) steps = HoldsOfBody Nounwind f.0 steps
+
+-- the fact holds in the run
+abbrev pub FactHolds : Fact → List Done → Type 0
+FactHolds x steps = HoldsAtPos x.pos steps
+
+-- the facts of a set hold in a run, and `nounwind` holds at each call of a body that has it
+pub record AllHold (m : Module) (held : Fact → Bool) (steps : List Done) : Type 0 where
+  pub facts : (x : Fact) → held x ≡ true → FactHolds x steps
+  pub calls : (s : Spot) (callee : Written) (words : CallWords) (places : CallPlaces) → instr_at m s ≡ Some (record { op = op.Call callee words places }) →
+      is_inner m callee ≡ true → held (nounwind_of (callee_of callee)) ≡ true → HoldsAt Nounwind s steps
+
+-- in every honest run, from every opening state and by every list of choices
+abbrev pub IsSound : Module → (Fact → Bool) → Type 0
+IsSound m held = (opening : State) → IsOpening opening → (choices : List Choice) → IsHonest m (run m opening choices) → AllHold m held (run m opening choices)

@@ -1,0 +1,11 @@
+ghost use Rattle.std.specs.Prelude.{◌≡◌, Bool};
+ghost use Rattle.ir_module.specs.declared.module.Module.{Module};
+ghost use Rattle.ir_module.specs.Formed.{IsWellFormed};
+ghost use Rattle.positions.specs.Facts.{Fact, SupportsItself};
+ghost use Rattle.laws_control.specs.Soundness.{IsSound};
+
+/// In every honest run of a well formed module, whatever its opening and its choices are, each fact of a set
+/// that supports itself holds, and so does `nounwind` at each call of a body whose fact is in the set.
+pub fn nounwind_holds()
+    ensures { (m : Module) → IsWellFormed m → (held : Fact → Bool) → SupportsItself m held → IsSound m held }
+{}
