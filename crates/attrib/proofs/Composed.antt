@@ -20,7 +20,8 @@ use Rattle.slice_module.specs.declared.module.Call.{Call}
 use Rattle.slice_module.specs.declared.module.Func.{Func}
 use Rattle.slice_module.specs.declared.module.Module.{Module}
 use Rattle.slice_module.specs.Module.{calls_of}
-use Rattle.slice_facts.specs.Facts.{has_body, is_body, is_promised, keeps, SupportsItself, IsGreatest, held_in}
+use Rattle.slice_facts.specs.Facts.{has_body, is_body, is_promised, held_in}
+use Rattle.attrib.proofs.Facts.{keeps, SupportsItself, IsGreatest}
 use Rattle.attrib.specs.Deduced.{bit_of, term_of, system_of}
 use Rattle.attrib.proofs.Built.{terms_of_system, system_masks}
 

@@ -3,3 +3,5 @@ pub mod Composed
 pub mod Swept
 pub mod Terms
 pub mod Once
+pub mod Facts
+pub mod Same

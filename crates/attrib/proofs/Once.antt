@@ -8,20 +8,13 @@ use Rattle.slice_module.specs.declared.module.Func.{Func}
 use Rattle.slice_module.specs.declared.module.Module.{Module}
 use Rattle.slice_module.specs.Module.{calls_of}
 use Rattle.slice_module.proofs.Single.{one_module}
-use Rattle.slice_facts.specs.Facts.{is_body, IsGreatest}
+use Rattle.slice_facts.specs.Facts.{is_body}
+use Rattle.slice_module.specs.Tables.{resolved}
+use Rattle.positions.specs.Facts.{nounwind_of, IsGreatest}
+use Rattle.positions.proofs.Unions.{one_set}
 use Rattle.slice_facts.specs.Printed.{word_at, header_words, call_words, words_from, insertions_of}
 use Rattle.weave.specs.Woven.{woven_from}
 use Rattle.attrib.specs.Annotated.{IsAnnotated}
-
--- two greatest sets hold the same facts
-one_set : (m : Module) (held other : ℕ → Bool) → IsGreatest m held → IsGreatest m other → (f : ℕ) → held f ≡ other f
-one_set m held other g h f = by (held f) (other f) refl refl
-  where
-    by : (a b : Bool) → held f ≡ a → other f ≡ b → a ≡ b
-    by true true e d = refl
-    by false false e d = refl
-    by true false e d = let both = h.contains held g.is_one f e in cc
-    by false true e d = let both = g.contains other h.is_one f d in cc
 
 module _ (m : Module) (held other : ℕ → Bool) (same : (f : ℕ) → held f ≡ other f) where
   calls_same : (cs : List Call) → flat_map (call_words m held) cs ≡ flat_map (call_words m other) cs
@@ -41,6 +34,9 @@ module _ (m : Module) (held other : ℕ → Bool) (same : (f : ℕ) → held f �
 pub one_text : (b out other : List ℕ) → IsAnnotated b out → IsAnnotated b other → out ≡ other
 one_text b out other x y =
     let same : x.m ≡ y.m = one_module b x.m y.m x.accepted y.accepted in
-    let greatest : IsGreatest x.m y.held = subst (λ m. IsGreatest m y.held) (sym same) y.greatest in
-    let words : insertions_of x.m x.held ≡ insertions_of x.m y.held = words_same x.m x.held y.held (one_set x.m x.held y.held x.greatest greatest) 0 x.m.funcs in
-    x.woven ∙ ap (λ ins. woven_from ins 0 b) (words ∙ ap (λ m. insertions_of m y.held) same) ∙ sym y.woven
+    let greatest : IsGreatest (resolved x.m) y.held = subst (λ m. IsGreatest (resolved m) y.held) (sym same) y.greatest in
+    let facts = one_set (resolved x.m) x.held y.held x.greatest greatest in
+    let mine : ℕ → Bool = λ f. x.held (nounwind_of f) in
+    let theirs : ℕ → Bool = λ f. y.held (nounwind_of f) in
+    let words : insertions_of x.m mine ≡ insertions_of x.m theirs = words_same x.m mine theirs (λ f. facts (nounwind_of f)) 0 x.m.funcs in
+    x.woven ∙ ap (λ ins. woven_from ins 0 b) (words ∙ ap (λ m. insertions_of m theirs) same) ∙ sym y.woven

@@ -1,5 +1,5 @@
 -- The system of words and terms that a module's facts are the bits of.
-use Rattle.std.specs.Prelude.{ℕ, ◌+◌, Bool, if◌then◌else◌, List, [], ◌∷◌, map}
+use Rattle.std.specs.Prelude.{ℕ, ◌+◌, ◌==◌, Bool, false, if◌then◌else◌, List, [], ◌∷◌, map}
 use Rattle.std.specs.Option.{is_some}
 use Rattle.rule_terms.specs.declared.term.NewTerm.{NewTerm}
 use Rattle.rule_terms.specs.declared.term.NewTerm.TheOpen.NewTerm-F.{Word, Const}
@@ -10,6 +10,10 @@ use Rattle.slice_module.specs.declared.module.Func.{Func}
 use Rattle.slice_module.specs.declared.module.Module.{Module}
 use Rattle.slice_module.specs.Module.{calls_of}
 use Rattle.slice_facts.specs.Facts.{is_body, is_promised}
+use Rattle.lattice_words.specs.declared.function.TheConstants.{NOUNWIND}
+use Rattle.positions.specs.declared.pos.Pos.{Pos}
+use Rattle.positions.specs.declared.pos.Pos.TheVariants as pos
+use Rattle.positions.specs.Facts.{Fact}
 
 -- a test as a word
 abbrev pub bit_of : Bool → ℕ
@@ -34,3 +38,10 @@ with_functions m s p (f ∷ fs) = with_functions m (with_terms s p (map (term_of
 -- each body with a term for each of its calls
 abbrev pub system_of : Module → System
 system_of m = with_functions m (with_masks (masks_of m)) 0 m.funcs
+
+-- the facts of a set of functions: `nounwind` of each
+abbrev pub holds_at : (ℕ → Bool) → Pos → ℕ → Bool
+holds_at held (pos.Function f) bit = if bit == NOUNWIND then held f.0 else false
+
+abbrev pub facts_of : (ℕ → Bool) → Fact → Bool
+facts_of held x = holds_at held x.pos x.bit

@@ -1,10 +1,19 @@
 pub use Rattle.slice_facts.specs.Tokens
 pub use Rattle.slice_facts.specs.Entities
-pub use Rattle.slice_facts.specs.Places
 pub use Rattle.slice_facts.specs.Names
 pub use Rattle.slice_facts.specs.Module
-pub use Rattle.slice_facts.specs.Facts
+pub use Rattle.slice_facts.specs.Tables
+pub use Rattle.slice_facts.specs.Facts as Written
 pub use Rattle.slice_facts.specs.Printed
+pub use Rattle.laws_control.specs.Places
+pub use Rattle.laws_control.specs.Calls
+pub use Rattle.laws_control.specs.Formed
+pub use Rattle.laws_control.specs.Frames
+pub use Rattle.laws_control.specs.Machine
+pub use Rattle.laws_control.specs.Runs
+pub use Rattle.laws_control.specs.Meanings
+pub use Rattle.laws_control.specs.Facts
+pub use Rattle.laws_control.specs.Soundness
 pub use Rattle.weave.specs.Woven
 pub mod Annotated
 pub mod Deduced

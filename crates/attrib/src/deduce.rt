@@ -6,7 +6,9 @@ ghost use Rattle.rule_terms.specs.System.{value_in, IsSystem};
 ghost use Rattle.rule_terms.specs.Greatest as rule;
 ghost use Rattle.lattice_words.specs.Words.{IsWithin};
 ghost use Rattle.slice_module.specs.Module.{calls_of};
-ghost use Rattle.slice_facts.specs.Facts.{IsGreatest, held_in};
+ghost use Rattle.slice_module.specs.Tables.{resolved};
+ghost use Rattle.slice_facts.specs.Facts.{held_in};
+ghost use Rattle.positions.specs.Facts.{IsGreatest};
 ghost use Rattle.attrib.specs.Deduced as spec;
 
 use attr_ids::{NoMemory, PosId, Sequence, WordList};
@@ -136,7 +138,7 @@ fn greatest(alloc: Global, m: &Module, system: &System) -> Result<WordList, NoMe
 /// The words that hold the greatest self-supporting set of a module's facts.
 pub(crate) fn nounwind(alloc: Global, m: &Module) -> Result<WordList, NoMemory>
     requires { length m.now.funcs < 2 ^ 32 }
-    ensures { IfOk result (λ words. IsGreatest m.now (held_in words)) }
+    ensures { IfOk result (λ words. IsGreatest (resolved m.now) (spec.facts_of (held_in words))) }
 {
     let system = system(alloc, m)?;
     let words = greatest(alloc, m, &system)?;

@@ -8,7 +8,7 @@ mod names;
 mod resolve;
 
 pub use module::{Block, Call, Calls, Func, Funcs, Module};
-pub use resolve::{module_of, one_module};
+pub use resolve::{a_resolved_module_is_well_formed, module_of, one_module};
 pub use slice_text::{Mention, TextRefusal};
 
 #[cfg(test)]

@@ -4,10 +4,12 @@ ghost use Rattle.std.specs.Prelude.{◌≡◌, ◌<◌, ◌≤◌, ◌^◌, leng
 ghost use Rattle.slice_text.specs.declared.entity.Entity.{Entity};
 ghost use Rattle.slice_text.specs.Entities.{Reads};
 ghost use Rattle.slice_text.specs.Places.{IsSpanIn, NamesWithin, ClosesRise, calls_of as mentions_of};
+ghost use Rattle.ir_module.specs.Formed.{IsWellFormed};
 ghost use Rattle.slice_module.specs.declared.module.Call.{Call};
 ghost use Rattle.slice_module.specs.declared.module.Func.{Func};
 ghost use Rattle.slice_module.specs.declared.module.Module.{Module};
 ghost use Rattle.slice_module.specs.Module.{entity_of, entities_of, calls_of, NamesCallee, Accepted};
+ghost use Rattle.slice_module.specs.Tables.{resolved};
 
 use crate::module::{Block, Call, Calls, Func, Funcs, Module};
 use crate::names::{Names, names, number_of, text_of};
@@ -105,4 +107,9 @@ pub fn module_of(alloc: Global, text: &[u8]) -> Result<Module, TextRefusal>
 /// A text has at most one module.
 pub fn one_module()
     ensures { (b : List ℕ) (m k : Module) → Accepted b m → Accepted b k → m ≡ k }
+{}
+
+/// The resolved module of a text is well formed: its numbers name what they should.
+pub fn a_resolved_module_is_well_formed()
+    ensures { (b : List ℕ) (m : Module) → Accepted b m → IsWellFormed (resolved m) }
 {}

@@ -1,4 +1,4 @@
-use Rattle.std.proofs.Common.{◌≤◌, sym, subst, ap, arith, length, All, Err}
+use Rattle.std.proofs.Common.{◌≤◌, sym, subst, ap, arith, length, All, Err, List}
 use Rattle.std.specs.List.Sorted.{IsNonDecreasingBy}
 use Rattle.std.proofs.lemmas.List.{length-map}
 use Rattle.attr_ids.specs.declared.insertion.Insertion.{Insertion}
@@ -7,6 +7,11 @@ use Rattle.slice_module.specs.Module.{entity_of, entities_of, Accepted}
 use Rattle.slice_module.proofs.Single.{at_most}
 use Rattle.slice_facts.specs.Facts.{held_in}
 use Rattle.slice_facts.proofs.Rising.{in_order, within}
+use Rattle.slice_module.specs.Tables.{resolved}
+use Rattle.slice_module.proofs.Formed.{formed}
+use Rattle.laws_control.proofs.Unwinding.{holds}
+use Rattle.weave.specs.Woven.{Woven}
+use Rattle.attrib.specs.Deduced.{facts_of}
 use Rattle.attrib.proofs.annotation.annotate.Goals as goal
 
 pub returns-in-Err-Outside-clause-slice : goal.returns-in-Err-Outside-clause-slice
@@ -36,3 +41,17 @@ pub weave-requires-clause-within : goal.weave-requires-clause-within
 weave-requires-clause-within g c =
     subst (All (λ (x : Insertion). x.at ≤ length c.args.text.now)) (sym c.in_ok-insertions.ensures)
     (within (length c.args.text.now) c.in-Ok.module (held_in c.in_ok-words.words) c.in-Ok.ensures.closes)
+
+pub returns-clause-annotated : goal.returns-clause-annotated
+returns-clause-annotated g c =
+    let m = c.in-Ok.module in
+    let held = facts_of (held_in c.in_ok-words.words) in
+    record {
+      small = omega arith;
+      m = m;
+      accepted = c.in-Ok.ensures.accepted;
+      held = held;
+      greatest = c.in_ok-words.ensures;
+      woven = subst (λ (ins : List Insertion). Woven c.args.text.now ins c.in_ok-bytes.bytes) c.in_ok-insertions.ensures c.in_ok-bytes.ensures;
+      holds = holds (resolved m) held c.in_ok-words.ensures.is_one (formed m c.args.text.now c.in-Ok.ensures.accepted);
+    }
