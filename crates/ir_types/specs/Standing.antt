@@ -20,11 +20,12 @@ pub record Shows (l : Layout) (e : Extent) : Type 0 where
   pub nesting : e.nesting ≡ l.nesting
   pub is_sized : e.is_sized ≡ l.is_sized
 
--- the extent of a type that is laid out
+-- the extent that is kept of a type
 abbrev pub extent_of : Standing → Option Extent
 extent_of (Waiting known) = None
 extent_of (Laid extent) = Some extent
 
+-- the extent of type t, if it is laid out
 abbrev pub laid : List Standing → ℕ → Option Extent
 laid standings t = option_and_then extent_of (slice_get standings t)
 
@@ -69,6 +70,7 @@ AreWaiting users types standings =
 abbrev pub Grows : List Standing → List Standing → Type 0
 Grows old new = (t : ℕ) (e : Extent) → laid old t ≡ Some e → laid new t ≡ Some e
 
+-- a type that is not laid out
 abbrev pub is_open : Standing → Bool
 is_open (Waiting known) = true
 is_open (Laid extent) = false

@@ -30,5 +30,6 @@ abbrev pub Judges : Result Layout TypeRefusal → Result Extent TypeRefusal → 
 Judges (Err refusal) result = result ≡ Err refusal
 Judges (Ok l) result = (e : Extent) × (result ≡ Ok e) × Shows l e × (l.size ≤ 2 ^ 40)
 
+-- the same from a layout that may be refused
 abbrev pub IsJudged : Option Layout → Result Extent TypeRefusal → Type 0
 IsJudged o result = Judges (checked (λ l. l) o) result

@@ -36,6 +36,7 @@ fn standing_of(ty: &IrType, standings: &[Standing], known: usize) -> Standing
     }
     match type_extent(ty, standings) {
         Some(extent) => Standing::Laid(extent),
+        // Nothing is in the way, so this does not happen.
         None => Standing::Waiting { known },
     }
 }
