@@ -1,4 +1,4 @@
-use Rattle.std.proofs.Common.{◌≡◌, ◌-◌, arith}
+use Rattle.std.proofs.Common.{◌-◌, arith}
 use Rattle.std.proofs.lemmas.Bool.Decides.{nat_tests}
 use Rattle.ir_token.proofs.Rows.{in_row_fits}
 use Rattle.ir_token.proofs.left_out.may_be_in_row.Goals as goal
