@@ -11,3 +11,4 @@ pub mod Rows
 pub mod Widths
 pub mod Chains
 pub mod Exists
+pub mod Pictures

@@ -2,6 +2,28 @@
 ghost use Rattle.std.specs.Prelude.{◌≡◌, ◌<◌, length, slice_index};
 ghost use Rattle.ir_token.specs.Bytes as spec;
 
+// Each byte of a label stands at its own place, and a comma at every other place.
+static LABEL_BYTES: [u8; 256] = *b"\
+    ,,,,,,,,,,,,,,,,,,,,,,,,,,,,,,,,\
+    ,,,,$,,,,,,,,-.,0123456789,,,,,,\
+    ,ABCDEFGHIJKLMNOPQRSTUVWXYZ,,,,_\
+    ,abcdefghijklmnopqrstuvwxyz,,,,,\
+    ,,,,,,,,,,,,,,,,,,,,,,,,,,,,,,,,\
+    ,,,,,,,,,,,,,,,,,,,,,,,,,,,,,,,,\
+    ,,,,,,,,,,,,,,,,,,,,,,,,,,,,,,,,\
+    ,,,,,,,,,,,,,,,,,,,,,,,,,,,,,,,,";
+
+// Each byte of a word stands at its own place, and a comma at every other place.
+static WORD_BYTES: [u8; 256] = *b"\
+    ,,,,,,,,,,,,,,,,,,,,,,,,,,,,,,,,\
+    ,,,,,,,,,,,,,,.,0123456789,,,,,,\
+    ,ABCDEFGHIJKLMNOPQRSTUVWXYZ,,,,_\
+    ,abcdefghijklmnopqrstuvwxyz,,,,,\
+    ,,,,,,,,,,,,,,,,,,,,,,,,,,,,,,,,\
+    ,,,,,,,,,,,,,,,,,,,,,,,,,,,,,,,,\
+    ,,,,,,,,,,,,,,,,,,,,,,,,,,,,,,,,\
+    ,,,,,,,,,,,,,,,,,,,,,,,,,,,,,,,,";
+
 /// The byte at a place, and 0 past the end.
 pub fn byte(text: &[u8], at: usize) -> u8
     ensures value { result ≡ slice_index text.now at }
@@ -31,13 +53,13 @@ pub fn begins_word(c: u8) -> bool
 pub fn is_word(c: u8) -> bool
     ensures { result ≡ spec.is_word c }
 {
-    c.is_ascii_alphanumeric() || c == b'_' || c == b'.'
+    WORD_BYTES[c as usize] != b','
 }
 
 pub fn is_label(c: u8) -> bool
     ensures { result ≡ spec.is_label c }
 {
-    c.is_ascii_alphanumeric() || c == b'_' || c == b'.' || c == b'$' || c == b'-'
+    LABEL_BYTES[c as usize] != b','
 }
 
 pub fn is_meta(c: u8) -> bool

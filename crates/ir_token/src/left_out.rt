@@ -12,7 +12,7 @@ use crate::found::{Found, found_at};
 use crate::names::{has_front, is_named};
 use crate::runs::{past_blanks, past_label};
 use crate::token::Kind;
-use crate::words::{KEPT_NAMES, LEFT_NAMES, LEFT_WORDS};
+use crate::words::{KEPT_NAMES, LEFT_LENGTHS, LEFT_NAMES, LEFT_WORDS};
 
 fn is_among(words: &[&[u8]], word: &[u8]) -> bool
     ensures { result ≡ spec.is_among (map (λ entry. entry.now) words.now) word.now }
@@ -36,13 +36,32 @@ fn row<'a>(rows: &'a [&'a [&'a [u8]]], letter: u8) -> &'a [&'a [u8]]
     rows[(letter - b'a') as usize]
 }
 
+/// Whether a word in the row of a letter may be this one, by its length.
+fn may_be_in_row(word: &[u8], letter: u8) -> bool
+    requires low { 97 ≤ letter }
+    requires high { letter ≤ 122 }
+    ensures { IsTrue (spec.is_among (slice_index_or spec.left_rows (letter - 97) []) word.now) → IsTrue result }
+{
+    let length = word.len();
+    length < 32 && LEFT_LENGTHS[(letter - b'a') as usize * 32 + length] == b'#'
+}
+
+/// Whether the word is in the row of a letter.
+fn is_in_row(word: &[u8], letter: u8) -> bool
+    requires low { 97 ≤ letter }
+    requires high { letter ≤ 122 }
+    ensures { result ≡ spec.is_among (slice_index_or spec.left_rows (letter - 97) []) word.now }
+{
+    may_be_in_row(word, letter) && is_among(row(LEFT_WORDS, letter), word)
+}
+
 /// Whether the word is in the row of its letter.
 fn is_in_rows(word: &[u8]) -> bool
     ensures { result ≡ spec.is_in_rows word.now }
 {
     let first = byte(word, 0);
     if first >= b'a' && first <= b'z' {
-        is_among(row(LEFT_WORDS, first), word)
+        is_in_row(word, first)
     } else {
         false
     }

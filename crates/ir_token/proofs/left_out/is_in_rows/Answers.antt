@@ -1,14 +1,12 @@
-use Rattle.std.proofs.Common.{◌≡◌, ◌+◌, ◌-◌, ◌<◌, ◌⊎◌, ◌∙◌, ap, sym, inl, inr, ⊎_elim, arith}
+use Rattle.std.proofs.Common.{◌≡◌, ◌+◌, ◌-◌, ◌<◌, ◌⊎◌, ◌∙◌, sym, inl, inr, ⊎_elim, arith}
 use Rattle.std.specs.List.{slice_index}
-use Rattle.ir_token.specs.LeftOut.{is_among, left_rows}
 use Rattle.ir_token.proofs.Rows.{in_row, in_no_row}
 use Rattle.ir_token.proofs.left_out.is_in_rows.Goals as goal
 
 pub returns-then-first-le122 : goal.returns-then-first-le122
-unfolding left_rows
 returns-then-first-le122 c =
     let there : 97 + (c.byte-first.result - 97) ≡ slice_index c.args.word.now 0 = omega (arith, c.byte-first.ensures.value) in
-    c.is_among.ensures ∙ ap (λ words. is_among words c.args.word.now) c.row.ensures ∙ sym (in_row c.args.word.now (c.byte-first.result - 97) there)
+    c.is_in_row.ensures ∙ sym (in_row c.args.word.now (c.byte-first.result - 97) there)
 
 pub returns-else-first-ge97 : goal.returns-else-first-ge97
 returns-else-first-ge97 c =
