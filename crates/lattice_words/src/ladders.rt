@@ -5,28 +5,16 @@ ghost use Rattle.lattice_words.specs.Ladders.{byte_rungs, align_rungs, shift_of,
 
 use crate::value::{ALIGN_2, ALIGN_RUNGS, BYTE_RUNGS, BYTES_1};
 
-// The ladders are written once, here; `$table` makes of the rungs what its place needs.
-macro_rules! byte_ladder {
-    ($table:ident) => {
-        $table!(1, 2, 4, 8, 12, 16, 20, 24, 32, 40, 48, 64, 96, 128, 256, 1024)
-    };
-}
-
-macro_rules! align_ladder {
-    ($table:ident) => {
-        $table!(2, 4, 8, 16, 32, 64)
-    };
-}
-
-macro_rules! array {
-    ($($rung:literal),*) => {
+// The table of a ladder, from its rungs.
+macro_rules! ladder {
+    ($($rung:literal)*) => {
         [$($rung),*]
     };
 }
 
-static BYTE_LADDER: [u64; 16] = byte_ladder!(array);
+static BYTE_LADDER: [u64; 16] = ladder!(1 2 4 8 12 16 20 24 32 40 48 64 96 128 256 1024);
 
-static ALIGN_LADDER: [u64; 6] = align_ladder!(array);
+static ALIGN_LADDER: [u64; 6] = ladder!(2 4 8 16 32 64);
 
 /// How many bytes the rung number `k` of the ladder of bytes promises; its bit is `BYTES_1 + k`.
 pub fn byte_rung(k: u32) -> u64
