@@ -93,6 +93,7 @@ beside_more (x ∷ xs) more (suc i) = beside_more xs more i
 pub noted_whole : (slots : List Term) (mask place : ℕ) (old sized noted : List ℕ) (n more len : ℕ) →
     sized ≡ take n old ++ replicate more 0 → length old ≤ n → len ≡ length sized → length noted ≡ length sized → ReadsToo slots mask place sized noted →
     (take len (noted ++ drop (length noted) sized) ≡ noted) × ReadsToo slots mask place old noted
-noted_whole slots mask place old sized noted n more len is within long same noted_in =
-    (take-append-le len noted (drop (length noted) sized) (omega arith) ∙ take_all len noted (omega arith),
-    λ i. noted_in i ∙ ap (λ b. bit_or b (numbered_reads i (nth (slot_terms slots) place) mask)) (ap (λ l. slice_index l i) (is ∙ ap (λ l. l ++ replicate more 0) (take_all n old within)) ∙ beside_more old more i))
+noted_whole slots mask place old sized noted n more len is within long same noted_in = (
+  take-append-le len noted (drop (length noted) sized) (omega arith) ∙ take_all len noted (omega arith),
+  λ i. noted_in i ∙ ap (λ b. bit_or b (numbered_reads i (nth (slot_terms slots) place) mask)) (ap (λ l. slice_index l i) (is ∙ ap (λ l. l ++ replicate more 0) (take_all n old within)) ∙ beside_more old more i),
+)
