@@ -1,12 +1,14 @@
 -- The ladders by their bits: which bit of a word decides each bit after an offset or a step.
-use Rattle.std.proofs.Common.{◌≡◌, ℕ, suc, ◌+◌, ◌-◌, ◌%◌, ◌^◌, ◌<◌, ◌≤◌, ◌⊎◌, min, Bool, true, false, cond, not, ◌&&◌, ◌||◌, leb, ltb, slice_index, ◌==◌, Some, None, refl, ap, sym, ◌∙◌, inl, inr, arith, leb-true, leb-false, le-leb}
+use Rattle.std.proofs.Common.{◌≡◌, ℕ, suc, ◌+◌, ◌-◌, ◌%◌, ◌^◌, ◌<◌, ◌≤◌, ◌⊎◌, min, Bool, true, false, cond, not, ◌&&◌, ◌||◌, leb, ltb, slice_index, bit_and, ◌==◌, Option, Some, None, refl, ap, sym, ◌∙◌, inl, inr, arith, leb-true, leb-false, le-leb}
 use Rattle.std.specs.Int.{bit_at}
-use Rattle.std.proofs.lemmas.Bool.{agree_below, agree_below_at, cases_lt, cond-true, cond-false, and_left, and_right, and_from, lt-leb, lt-ltb, or_left}
+use Rattle.std.proofs.lemmas.Bool.{agree_below, agree_below_at, cases_lt, cases_Bool, and_parts, cond-true, cond-false, and_left, and_right, and_from, lt-leb, lt-ltb, or_left}
 use Rattle.std.specs.List.{position_or_len}
+use Rattle.std.proofs.lemmas.Nat.Bits.{bit_at_and, bit_at-zero, bit_at_mask_inside, same_from_bits_below}
 use Rattle.std.proofs.lemmas.List.{get_or_past}
 use Rattle.std.proofs.lemmas.List.Sums.{position_or_len_is}
 use Rattle.std.proofs.lemmas.List.Quantifiers.{position-Some}
 use Rattle.lattice_words.specs.Words.{bit_of, has_bit}
+use Rattle.lattice_words.specs.declared.value.TheConstants.{ALL_BYTES}
 use Rattle.lattice_words.specs.Ladders.{byte_rungs, align_rungs, is_byte_bit, is_align_bit, lowest_byte_rung, has_byte_rung, shifted_bit, shift_of, kept_bit, keep_align_of, IsLowestByteRung}
 use Rattle.lattice_words.proofs.WordBits.{IsDoneTo, done_all, bit_of-has_bit, bit_at-word_of, word_of-lt}
 
@@ -151,3 +153,27 @@ kept_bit-rung step w k l =
     let number : (17 + k) - 17 ≡ k = omega arith in
     let on : is_align_bit (17 + k) ≡ true = and_from _ _ (le-leb 17 (17 + k) (omega arith)) (le-leb (17 + k) 22 (omega arith)) in
     ap (λ b. has_bit w (17 + k) && (not b || (step % slice_index align_rungs ((17 + k) - 17) == 0))) on ∙ ap (λ j. has_bit w (17 + k) && (step % slice_index align_rungs j == 0)) number
+
+-- a rung of bytes is one of all of them
+pub byte_bit : (i : ℕ) → is_byte_bit i ≡ true → bit_at ALL_BYTES i ≡ 1
+byte_bit i is =
+    let parts = and_parts _ _ is in
+    bit_at_mask_inside 23 39 i (leb-true 23 i parts.0) (omega (arith, leb-true i 38 parts.1))
+
+-- a word without a rung of bytes stays as it is
+pub shift_of-none : (offset w : ℕ) → w < 2 ^ 64 → bit_and w ALL_BYTES ≡ 0 → w ≡ shift_of offset w
+shift_of-none offset w fits none = same_from_bits_below 64 w (shift_of offset w) fits (shift_of-lt offset w) (λ i l. sym (bit i l)) where
+  no_bit : (i : ℕ) → is_byte_bit i ≡ true → bit_at w i ≡ 0
+  no_bit i on = omega (arith, bit_at_and w ALL_BYTES i, ap (λ x. bit_at x i) none, bit_at-zero i, byte_bit i on)
+
+  no_rung : (rung : Option ℕ) → ((k : ℕ) → rung ≡ Some k → k < 16) → bit_of (has_byte_rung w rung) ≡ 0
+  no_rung None low = refl
+  no_rung (Some k) low = bit_of-has_bit w (23 + k) ∙ no_bit (23 + k) (is_byte_bit-rung k (low k refl))
+
+  bit : (i : ℕ) → i < 64 → bit_at (shift_of offset w) i ≡ bit_at w i
+  bit i l = elim (cases_Bool (is_byte_bit i)) [
+    | inl rung ↦
+        let n = slice_index byte_rungs (i - 23) + offset in
+        bit_at-shift_of-rung offset w i l rung ∙ no_rung (lowest_byte_rung n) (lowest-below n) ∙ sym (no_bit i rung)
+    | inr other ↦ bit_at-shift_of-other offset w i l other
+  ]

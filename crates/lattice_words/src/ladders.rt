@@ -3,30 +3,18 @@ ghost use Rattle.std.specs.Int.{bit_at};
 ghost use Rattle.lattice_words.specs.Words.{bit_of, has_bit};
 ghost use Rattle.lattice_words.specs.Ladders.{byte_rungs, align_rungs, shift_of, keep_align_of};
 
-use crate::value::{ALIGN_2, ALIGN_RUNGS, BYTE_RUNGS, BYTES_1};
+use crate::value::{ALIGN_2, ALIGN_RUNGS, ALL_BYTES, BYTE_RUNGS, BYTES_1};
 
-// The ladders are written once, here; `$table` makes of the rungs what its place needs.
-macro_rules! byte_ladder {
-    ($table:ident) => {
-        $table!(1, 2, 4, 8, 12, 16, 20, 24, 32, 40, 48, 64, 96, 128, 256, 1024)
-    };
-}
-
-macro_rules! align_ladder {
-    ($table:ident) => {
-        $table!(2, 4, 8, 16, 32, 64)
-    };
-}
-
-macro_rules! array {
-    ($($rung:literal),*) => {
+// The table of a ladder, from its rungs.
+macro_rules! ladder {
+    ($($rung:literal)*) => {
         [$($rung),*]
     };
 }
 
-static BYTE_LADDER: [u64; 16] = byte_ladder!(array);
+static BYTE_LADDER: [u64; 16] = ladder!(1 2 4 8 12 16 20 24 32 40 48 64 96 128 256 1024);
 
-static ALIGN_LADDER: [u64; 6] = align_ladder!(array);
+static ALIGN_LADDER: [u64; 6] = ladder!(2 4 8 16 32 64);
 
 /// How many bytes the rung number `k` of the ladder of bytes promises; its bit is `BYTES_1 + k`.
 pub fn byte_rung(k: u32) -> u64
@@ -85,6 +73,9 @@ fn put(word: u64, bit: u32, set: bool) -> u64
 pub fn shift(bytes: u64, word: u64) -> u64
     ensures { result ≡ shift_of bytes word }
 {
+    if word & ALL_BYTES == 0 {
+        return word;
+    }
     let mut shifted = word;
     let mut lowest = 0;
     for rung in 0..BYTE_RUNGS {
@@ -112,8 +103,8 @@ pub fn keep_align(step: u64, word: u64) -> u64
 mod tests {
     use super::*;
     use crate::value::{
-        ALIGN_4, ALIGN_8, ALIGN_16, ALL_ALIGN, ALL_BYTES, BYTES_2, BYTES_4, BYTES_8, BYTES_12,
-        BYTES_16, NONNULL, NOT_GLOBAL,
+        ALIGN_4, ALIGN_8, ALIGN_16, ALL_ALIGN, BYTES_2, BYTES_4, BYTES_8, BYTES_12, BYTES_16,
+        NONNULL, NOT_GLOBAL,
     };
 
     // What is known of `@g = global [3 x i32] zeroinitializer, align 16`.

@@ -1,9 +1,9 @@
 -- What a system keeps, and what it shows, as terms are met in.
-use Rattle.std.proofs.Common.{◌≡◌, ◌≢◌, ◌⊎◌, Bool, false, cond, ℕ, zero, suc, ◌+◌, ◌<◌, true, List, [], ◌∷◌, ◌++◌, length, length-set, map, get_or, set, slice_get, Some, Result, Ok, Err, OnOk, OnErr, option_map, refl, ap, sym, ◌∙◌, subst, arith, All, inl, inr, length-append, append-nil, replicate, ◌^◌}
-use Rattle.std.specs.List.{flat_map}
+use Rattle.std.proofs.Common.{◌≡◌, ◌≢◌, ◌⊎◌, Bool, false, cond, ℕ, zero, suc, ◌+◌, ◌<◌, true, List, [], ◌∷◌, ◌++◌, length, length-set, map, get_or, set, slice_get, slice_index, bit_or, Some, Result, Ok, Err, OnOk, OnErr, option_map, refl, ap, sym, ◌∙◌, subst, arith, All, inl, inr, length-append, append-nil, replicate, ◌^◌}
+use Rattle.std.specs.List.{flat_map, fold}
 use Rattle.std.proofs.lemmas.List.{length-map, map-append, map-set}
 use Rattle.std.proofs.lemmas.List.Concat.{flat_map-append}
-use Rattle.std.proofs.lemmas.List.Sums.{fold-append}
+use Rattle.std.proofs.lemmas.List.Sums.{fold-append, fold_push}
 use Rattle.std.proofs.lemmas.List.Elements.{All-map, All-nil, All-push}
 use Rattle.std.proofs.lemmas.Option.{slice_get-get_or, slice_get_read, slice_get-map, get_or_from_slice_get, same_Some, none-some, slice_get_within}
 use Rattle.attr_ids.specs.declared.ids.PosId.{PosId}
@@ -15,7 +15,8 @@ use Rattle.rule_terms.specs.declared.term.TermId.{TermId}
 use Rattle.rule_terms.specs.Names.{is_over, names_of, has_name, with_name, with_names}
 use Rattle.rule_terms.specs.Slots.{IsReadable, AreOrdered, nth, slot_terms, named}
 use Rattle.rule_terms.specs.Pool.{IsGrown, AreApart, IsMarked}
-use Rattle.rule_terms.specs.Kept.{met_terms, term_at, IsRule, AreRules, AreEmptyRules}
+use Rattle.rule_terms.specs.SlotReads.{numbered_reads, places_read}
+use Rattle.rule_terms.specs.Kept.{met_terms, term_at, IsRule, AreRules, HasReads, HaveReads, AreEmptyRules}
 use Rattle.rule_terms.specs.Meeting.{Met, NotMet}
 use Rattle.rule_terms.specs.Inside.{shown, IsKept}
 use Rattle.rule_terms.specs.System.{System, IsSystem, terms_at, with_masks, with_term}
@@ -67,6 +68,14 @@ module _ (slots more : List Term) (grown : IsGrown slots more) where
   -- the terms at places that stay
   terms_stay : (count : ℕ) (rule : Rule) → IsRule count slots rule → (wider : List PosId) → IsGrown rule.inputs wider → map (term_at more wider) rule.places.items ≡ map (term_at slots rule.inputs) rule.places.items
   terms_stay count rule is wider widened = map_agree (term_at more wider) (term_at slots rule.inputs) rule.places.items (λ k place e. term_stays rule.inputs wider widened place (is.places k place e))
+
+  -- what the terms at places read stays
+  places_read-stays : (i mask start : ℕ) (places : List TermId) → ((k : ℕ) (place : TermId) → slice_get places k ≡ Some place → place.0 < length slots) →
+      fold (λ bits place. bit_or bits (numbered_reads i (nth (slot_terms more) place.0) mask)) start places ≡ fold (λ bits place. bit_or bits (numbered_reads i (nth (slot_terms slots) place.0) mask)) start places
+  places_read-stays i mask start [] within = refl
+  places_read-stays i mask start (place ∷ places) within =
+      ap (λ t. fold (λ bits place. bit_or bits (numbered_reads i (nth (slot_terms more) place.0) mask)) (bit_or start (numbered_reads i t mask)) places) (same_slot place.0 (within zero place refl))
+      ∙ places_read-stays i mask (bit_or start (numbered_reads i (nth (slot_terms slots) place.0) mask)) places (λ k other e. within (suc k) other e)
 
 -- names are only added behind
 with_name-grown : (names : List PosId) (p : PosId) → IsGrown names (with_name names p)
@@ -120,10 +129,10 @@ module _ (count : ℕ) (slots more : List Term) (grown : IsGrown slots more) whe
       )
 
   -- a rule that a term was met into shows it behind the others
-  pub met_one : (old new : Rule) (term : NewTerm) → Met more old new term → IsRule count slots old → AreApart new.inputs count → is_over count term ≡ true →
+  pub met_one : (mask : ℕ) (old new : Rule) (term : NewTerm) → Met more mask old new term → IsRule count slots old → AreApart new.inputs count → is_over count term ≡ true →
       (met_terms more new ≡ met_terms slots old ++ term ∷ []) × IsRule count more new
   unfolding met_terms
-  met_one old new term met is new_apart over =
+  met_one mask old new term met is new_apart over =
       let widened : IsGrown old.inputs new.inputs = subst (IsGrown old.inputs) (sym met.names) (with_names-grown old.inputs (names_of term)) in
       let same : met_terms more new ≡ met_terms slots old ++ term ∷ [] =
       ap (map (term_at more new.inputs)) met.pushed
@@ -142,12 +151,42 @@ module _ (count : ℕ) (slots more : List Term) (grown : IsGrown slots more) whe
         },
       )
 
+  same_reads : (rule : Rule) (mask i : ℕ) → IsRule count slots rule → places_read i more mask rule.places.items ≡ places_read i slots mask rule.places.items
+  same_reads rule mask i is = places_read-stays slots more grown i mask 0 rule.places.items (λ k place e. (is.places k place e).within)
+
+  reads_stay : (rule : Rule) (mask : ℕ) → IsRule count slots rule → HasReads slots mask rule → HasReads more mask rule
+  reads_stay rule mask is has = record { long = has.long; bits = λ i. has.bits i ∙ sym (same_reads rule mask i is) }
+
+  -- a rule that no term was met into has the same beside its inputs
+  pub not_met_reads : (mask : ℕ) (old new : Rule) → NotMet old new → IsRule count slots old → HasReads slots mask old → HasReads more mask new
+  not_met_reads mask old new unmet is has =
+      let stays = reads_stay old mask is has in
+      record { long = rw (unmet.reads, unmet.inputs) stays.long; bits = λ i. rw (unmet.reads, unmet.places) (stays.bits i) }
+
+  -- a rule that a term was met into has what the term reads too
+  pub met_reads : (mask : ℕ) (old new : Rule) (term : NewTerm) → Met more mask old new term → IsRule count slots old → HasReads slots mask old → HasReads more mask new
+  met_reads mask old new term met is has = record {
+    long = met.long;
+    bits = λ i.
+        let step : ℕ → TermId → ℕ = λ bits place. bit_or bits (numbered_reads i (nth (slot_terms more) place.0) mask) in
+        met.reads i
+        ∙ ap (λ b. step b met.place) ((reads_stay old mask is has).bits i)
+        ∙ sym (fold_push step 0 old.places.items met.place)
+        ∙ ap (places_read i more mask) (sym met.pushed);
+  }
+
   -- all rules after one of them was written
   module _ (rules : List Rule) (are : AreRules count slots rules) (p : ℕ) (new : Rule) where
     pub rules_after : IsRule count more new → AreRules count more (set rules p new)
     rules_after is k rule e = elim (slice_get-set rules p new k rule e) [
       | inl here ↦ rw here.1 is
       | inr there ↦ rule_stays rule (are k rule there.1)
+    ]
+
+    pub reads_after : (masks : List ℕ) → HaveReads slots masks rules → HasReads more (slice_index masks p) new → HaveReads more masks (set rules p new)
+    reads_after masks have has k rule e = elim (slice_get-set rules p new k rule e) [
+      | inl here ↦ rw (here.0, here.1) has
+      | inr there ↦ reads_stay rule (slice_index masks k) (are k rule there.1) (have k rule there.1)
     ]
 
     pub shown_after : (terms : List NewTerm) → met_terms more new ≡ terms → map (met_terms more) (set rules p new) ≡ set (map (met_terms slots) rules) p terms
@@ -180,8 +219,8 @@ pub record IsStep (a b : Inside) (p : ℕ) (old new : Rule) : Type 0 where
   pub place : b.marked ≡ p
 
 module _ (a b : Inside) (kept : IsKept a) (p : ℕ) (old new : Rule) (step : IsStep a b p old new) where
-  pub step_kept : IsRule (length a.masks) b.pool.slots.items new → IsKept b
-  step_kept is = record {
+  pub step_kept : IsRule (length a.masks) b.pool.slots.items new → HasReads b.pool.slots.items (slice_index a.masks p) new → IsKept b
+  step_kept is has = record {
     fits = rw step.masks kept.fits;
     facts = rw step.masks kept.facts;
     long = rw (step.masks, step.rules, length-set) kept.long;
@@ -189,6 +228,7 @@ module _ (a b : Inside) (kept : IsKept a) (p : ℕ) (old new : Rule) (step : IsS
     closed = step.closed;
     ordered = step.ordered;
     rules = rw (step.masks, step.rules) (rules_after (length a.masks) a.pool.slots.items b.pool.slots.items step.grown a.rules.items kept.rules p new is);
+    reads = rw (step.masks, step.rules) (reads_after (length a.masks) a.pool.slots.items b.pool.slots.items step.grown a.rules.items kept.rules p new a.masks kept.reads has);
     marked = rw (step.rules, step.place) at_place;
   } where
     at_place : (rule : Rule) → slice_get (set a.rules.items p new) p ≡ Some rule → IsMarked rule.inputs b.pool.marks.items
@@ -205,10 +245,16 @@ module _ (a b : Inside) (kept : IsKept a) (p : ℕ) (old new : Rule) (step : IsS
       set_same (map (met_terms a.pool.slots.items) a.rules.items) p (met_terms a.pool.slots.items old) (found_terms a p old step.found) in
       (both.1, same_shown b (shown a) step.masks (ap (map (met_terms b.pool.slots.items)) step.rules ∙ terms ∙ same))
 
-  pub step_met : (term : NewTerm) → Met b.pool.slots.items old new term → is_over (length a.masks) term ≡ true → IsRule (length a.masks) b.pool.slots.items new × (shown b ≡ with_term (shown a) p term)
+  pub step_unmet_reads : NotMet old new → HasReads b.pool.slots.items (slice_index a.masks p) new
+  step_unmet_reads unmet = not_met_reads (length a.masks) a.pool.slots.items b.pool.slots.items step.grown (slice_index a.masks p) old new unmet (kept.rules p old step.found) (kept.reads p old step.found)
+
+  pub step_met_reads : (term : NewTerm) → Met b.pool.slots.items (slice_index a.masks p) old new term → HasReads b.pool.slots.items (slice_index a.masks p) new
+  step_met_reads term met = met_reads (length a.masks) a.pool.slots.items b.pool.slots.items step.grown (slice_index a.masks p) old new term met (kept.rules p old step.found) (kept.reads p old step.found)
+
+  pub step_met : (term : NewTerm) → Met b.pool.slots.items (slice_index a.masks p) old new term → is_over (length a.masks) term ≡ true → IsRule (length a.masks) b.pool.slots.items new × (shown b ≡ with_term (shown a) p term)
   step_met term met over =
       let new_apart : AreApart new.inputs (length a.masks) = subst (AreApart new.inputs) (step.size ∙ kept.marks) (apart_from_marks new.inputs b.pool.marks.items step.marked) in
-      let both = met_one (length a.masks) a.pool.slots.items b.pool.slots.items step.grown old new term met (kept.rules p old step.found) new_apart over in
+      let both = met_one (length a.masks) a.pool.slots.items b.pool.slots.items step.grown (slice_index a.masks p) old new term met (kept.rules p old step.found) new_apart over in
       let before : terms_at (shown a) p ≡ met_terms a.pool.slots.items old = get_or_from_slice_get (map (met_terms a.pool.slots.items) a.rules.items) p (met_terms a.pool.slots.items old) [] (found_terms a p old step.found) in
       let terms = shown_after (length a.masks) a.pool.slots.items b.pool.slots.items step.grown a.rules.items kept.rules p new (terms_at (shown a) p ++ term ∷ []) (both.0 ∙ ap (λ l. l ++ term ∷ []) (sym before)) in
       (both.1, same_shown b (with_term (shown a) p term) step.masks (ap (map (met_terms b.pool.slots.items)) step.rules ∙ terms))
@@ -234,12 +280,13 @@ found_rule a s p rule kept same within read =
 
 -- ---- a system with no term met in
 pub empty_none : (rules : List Rule) → rules ≡ [] → AreEmptyRules 0 rules
-empty_none rules none = record { long = ap length none; inputs = rw none (All-nil (λ (rule : Rule). rule.inputs ≡ [])); places = rw none (All-nil (λ (rule : Rule). rule.places.items ≡ [])) }
+empty_none rules none = record { long = ap length none; inputs = rw none (All-nil (λ (rule : Rule). rule.inputs ≡ [])); reads = rw none (All-nil (λ (rule : Rule). rule.reads.items ≡ [])); places = rw none (All-nil (λ (rule : Rule). rule.places.items ≡ [])) }
 
-pub empty_more : (count : ℕ) (rules after : List Rule) (rule : Rule) → AreEmptyRules count rules → after ≡ rules ++ rule ∷ [] → rule.inputs ≡ [] → rule.places.items ≡ [] → AreEmptyRules (count + 1) after
-empty_more count rules after rule are same no_input no_place = rw same (record {
+pub empty_more : (count : ℕ) (rules after : List Rule) (rule : Rule) → AreEmptyRules count rules → after ≡ rules ++ rule ∷ [] → rule.inputs ≡ [] → rule.reads.items ≡ [] → rule.places.items ≡ [] → AreEmptyRules (count + 1) after
+empty_more count rules after rule are same no_input no_read no_place = rw same (record {
   long = length-append rules (rule ∷ []) ∙ ap (λ n. n + 1) are.long;
   inputs = All-push (λ (r : Rule). r.inputs ≡ []) rules rule are.inputs no_input;
+  reads = All-push (λ (r : Rule). r.reads.items ≡ []) rules rule are.reads no_read;
   places = All-push (λ (r : Rule). r.places.items ≡ []) rules rule are.places no_place;
 })
 
@@ -266,6 +313,13 @@ module _ (rules : List Rule) (count : ℕ) (are : AreEmptyRules count rules) (sl
         over = rw (no_terms k rule e) (All-nil (λ term. is_over count term ≡ true));
       }
 
+  no_reads : (mask k : ℕ) (rule : Rule) → slice_get rules k ≡ Some rule → HasReads slots mask rule
+  no_reads mask k rule e =
+      let no_input : rule.inputs ≡ [] = at_rule (λ r. r.inputs ≡ []) rules are.inputs k rule e in
+      let no_read : rule.reads.items ≡ [] = at_rule (λ r. r.reads.items ≡ []) rules are.reads k rule e in
+      let no_place : rule.places.items ≡ [] = at_rule (λ r. r.places.items ≡ []) rules are.places k rule e in
+      record { long = rw (no_read, no_input) refl; bits = λ i. rw (no_read, no_place) refl }
+
   no_marks : (marks : List ℕ) (k : ℕ) (rule : Rule) → slice_get rules k ≡ Some rule → IsMarked rule.inputs marks
   no_marks marks k rule e i p f =
       let no_input : rule.inputs ≡ [] = at_rule (λ r. r.inputs ≡ []) rules are.inputs k rule e in
@@ -281,6 +335,7 @@ new_kept a fits facts are slots inputs marks = record {
   closed = inputs;
   ordered = λ place slot e. absurd (none-some slot (rw slots at e));
   rules = empty_rule a.rules.items (length a.masks) are a.pool.slots.items;
+  reads = λ p. no_reads a.rules.items (length a.masks) are a.pool.slots.items (slice_index a.masks p) p;
   marked = no_marks a.rules.items (length a.masks) are a.pool.slots.items a.pool.marks.items a.marked;
 }
 

@@ -6,6 +6,7 @@ pub mod Marked
 pub mod Meeting
 pub mod Monotone
 pub mod Naming
+pub mod Noting
 pub mod Putting
 pub mod Reading
 pub mod ReadsShown

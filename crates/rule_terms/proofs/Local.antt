@@ -2,14 +2,14 @@
 use Rattle.std.proofs.Common.{◌≡◌, ℕ, zero, suc, ◌^◌, ◌<◌, Bool, true, false, cond, eqb, eq-eqb, eqb-true, ◌&&◌, nat_lt, List, [], ◌∷◌, length, slice_index, All, bit_and, bit_or, refl, ap, sym, ◌∙◌, subst, arith, inl, inr}
 use Rattle.std.specs.List.{fold}
 use Rattle.std.specs.Int.{bit_at}
-use Rattle.std.proofs.lemmas.Bool.{and_parts, and_from, ltb-true, leb-true, le-leb, cond-true, cases_Bool, cases_eq, cases_lt}
+use Rattle.std.proofs.lemmas.Bool.{and_parts, and_from, ltb-true, le-leb, cond-true, cases_Bool, cases_eq, cases_lt}
 use Rattle.std.proofs.lemmas.List.Elements.{All-head, All-tail, All-get_or}
 use Rattle.std.proofs.lemmas.List.{get_or_past}
 use Rattle.std.proofs.lemmas.Nat.{and_le_l}
-use Rattle.std.proofs.lemmas.Nat.Bits.{bit_at_and, bit_at_or, bit_at-lt, bit_at-zero, bit_at-pow_same, bit_at_mask_inside, bit_at_mask_below, bit_at_mask_above, same_from_bits_below}
+use Rattle.std.proofs.lemmas.Nat.Bits.{bit_at_and, bit_at_or, bit_at-lt, bit_at-zero, bit_at-pow_same, bit_at_mask_below, bit_at_mask_above, same_from_bits_below}
 use Rattle.lattice_words.specs.Ladders.{shift_of, is_byte_bit}
 use Rattle.lattice_words.specs.declared.value.TheConstants.{ALL_BYTES}
-use Rattle.lattice_words.proofs.LadderBits.{bit_at-shift_of-other}
+use Rattle.lattice_words.proofs.LadderBits.{bit_at-shift_of-other, byte_bit}
 use Rattle.lattice_words.proofs.Locality.{same_after_shift, same_after_step}
 use Rattle.attr_ids.specs.declared.ids.PosId.{PosId}
 use Rattle.rule_terms.specs.declared.term.NewTerm.{NewTerm}
@@ -40,11 +40,6 @@ agree_right a b x y h i l is = h i l (or_right a b i is)
 
 agree_same : (a b x y : ℕ) → a ≡ b → AgreeOn a x y → AgreeOn b x y
 agree_same a b x y e h = subst (λ w. AgreeOn w x y) e h
-
-byte_bit : (i : ℕ) → is_byte_bit i ≡ true → bit_at ALL_BYTES i ≡ 1
-byte_bit i is =
-    let parts = and_parts _ _ is in
-    bit_at_mask_inside 23 39 i (leb-true 23 i parts.0) (omega (arith, leb-true i 38 parts.1))
 
 bit_byte : (i : ℕ) → bit_at ALL_BYTES i ≡ 1 → is_byte_bit i ≡ true
 bit_byte i is = elim (cases_lt i 23) [

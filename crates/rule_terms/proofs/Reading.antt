@@ -1,17 +1,12 @@
 -- What a slot that is read tells of its parts.
-use Rattle.std.proofs.Common.{◌≡◌, ℕ, ◌<◌, true, ◌&&◌, List, get_or, slice_get, Some, ap, sym, ◌∙◌, arith, nat_lt, cond, eqb, eq-eqb, bit_and, bit_or, ◌/◌, ◌*◌, ◌%◌, ◌^◌, one-mul}
+use Rattle.std.proofs.Common.{◌≡◌, ℕ, ◌<◌, true, ◌&&◌, List, get_or, slice_get, Some, ap, sym, ◌∙◌, arith, nat_lt, cond, eqb, eq-eqb, bit_and, ◌/◌, ◌^◌}
 use Rattle.std.proofs.lemmas.Bool.{and_parts, ltb-true, cond-true, cond-false, ne_eqb}
 use Rattle.std.proofs.lemmas.Nat.Bits.{shr_and_one}
 use Rattle.std.specs.Int.{bit_at}
-use Rattle.std.specs.Int.Bits.{or_zero_l}
-use Rattle.std.proofs.Math.Nat.{mod-eq_of_lt}
-use Rattle.std.proofs.lemmas.Nat.{pow_below}
 use Rattle.std.proofs.lemmas.Option.{slice_get-get_or}
 use Rattle.rule_terms.specs.declared.term.Term.{Term}
 use Rattle.rule_terms.specs.declared.term.Term.TheVariants as slot
 use Rattle.rule_terms.specs.declared.term.TermId.{TermId}
-use Rattle.lattice_words.specs.declared.value.TheConstants.{ALL_BYTES}
-use Rattle.rule_terms.specs.Reads.{with_byte_bits}
 use Rattle.rule_terms.specs.Slots.{const, word, both, either, unless, shift, keep_align, spread, nth, slot_term, slot_terms, is_numbered, AreOrdered, IsBehind, IsReadable}
 use Rattle.rule_terms.proofs.Slotted.{nth-slot}
 
@@ -69,26 +64,3 @@ taken_branch whole found bit x y same is = sym (cond-true (eqb (bit_at whole bit
 
 pub other_branch : (whole found bit x y : ℕ) → found ≡ whole → (bit_and (found / 2 ^ bit) 1 ≡ 1 → ⊥) → y ≡ cond (eqb (bit_at whole bit) 1) x y
 other_branch whole found bit x y same isnt = sym (cond-false (eqb (bit_at whole bit) 1) x y (ne_eqb (bit_at whole bit) 1 (λ is. isnt (shr_and_one found bit ∙ ap (λ w. bit_at w bit) same ∙ is))))
-
--- ---- what is read
-pub one_shl : (bit : ℕ) → bit < 64 → 1 * 2 ^ bit % 2 ^ 64 ≡ 2 ^ bit
-one_shl bit l = ap (λ n. n % 2 ^ 64) (one-mul (2 ^ bit)) ∙ mod-eq_of_lt (pow_below bit 64 l)
-
-pub input_read : (input read wanted : ℕ) → input ≡ read → wanted ≡ cond (eqb input read) wanted 0
-input_read input read wanted is = sym (cond-true (eqb input read) wanted 0 (eq-eqb input read is))
-
-pub input_unread : (input read wanted : ℕ) → (input ≡ read → ⊥) → 0 ≡ cond (eqb input read) wanted 0
-input_unread input read wanted isnt = sym (cond-false (eqb input read) wanted 0 (ne_eqb input read isnt))
-
-pub unless_read : (input read bit found part : ℕ) → bit < 64 → input ≡ read → found ≡ part → bit_or (1 * 2 ^ bit % 2 ^ 64) found ≡ bit_or (cond (eqb input read) (2 ^ bit) 0) part
-unless_read input read bit found part l is same =
-    ap (λ n. bit_or n found) (one_shl bit l ∙ input_read input read (2 ^ bit) is) ∙ ap (bit_or (cond (eqb input read) (2 ^ bit) 0)) same
-
-pub unless_unread : (input read bit found part : ℕ) → (input ≡ read → ⊥) → found ≡ part → found ≡ bit_or (cond (eqb input read) (2 ^ bit) 0) part
-unless_unread input read bit found part isnt same = same ∙ sym (or_zero_l part) ∙ ap (λ n. bit_or n part) (input_unread input read (2 ^ bit) isnt)
-
-pub no_rung_wanted : (wanted : ℕ) → bit_and wanted ALL_BYTES ≡ 0 → wanted ≡ with_byte_bits wanted
-no_rung_wanted wanted is = sym (cond-true (eqb (bit_and wanted ALL_BYTES) 0) wanted (bit_or wanted ALL_BYTES) (eq-eqb (bit_and wanted ALL_BYTES) 0 is))
-
-pub rung_wanted : (wanted : ℕ) → (bit_and wanted ALL_BYTES ≡ 0 → ⊥) → bit_or wanted ALL_BYTES ≡ with_byte_bits wanted
-rung_wanted wanted isnt = sym (cond-false (eqb (bit_and wanted ALL_BYTES) 0) wanted (bit_or wanted ALL_BYTES) (ne_eqb (bit_and wanted ALL_BYTES) 0 isnt))

@@ -1,7 +1,7 @@
 -- A system by its fields.
 use Rattle.std.specs.Prelude.{◌≡◌, ◌^◌, ◌<◌, [], length, map, All}
 use Rattle.rule_terms.specs.declared.system.System.TheInside.{Inside}
-use Rattle.rule_terms.specs.Kept.{met_terms, AreRules, IsMarkedAt}
+use Rattle.rule_terms.specs.Kept.{met_terms, AreRules, HaveReads, IsMarkedAt}
 use Rattle.rule_terms.specs.Slots.{AreOrdered}
 use Rattle.rule_terms.specs.System.{System}
 
@@ -16,4 +16,5 @@ pub record IsKept (a : Inside) : Type 0 where
   pub closed : a.pool.inputs.items ≡ []
   pub ordered : AreOrdered a.pool.slots.items
   pub rules : AreRules (length a.masks) a.pool.slots.items a.rules.items
+  pub reads : HaveReads a.pool.slots.items a.masks a.rules.items
   pub marked : IsMarkedAt a.rules.items a.pool.marks.items a.marked

@@ -1,5 +1,5 @@
 -- What a system keeps, and what it shows of that.
-use Rattle.std.specs.Prelude.{◌≡◌, ℕ, true, List, [], length, map, slice_get, Some, All}
+use Rattle.std.specs.Prelude.{◌≡◌, ℕ, true, List, [], length, map, slice_get, slice_index, Some, All}
 use Rattle.std.specs.List.{flat_map}
 use Rattle.attr_ids.specs.declared.ids.PosId.{PosId}
 use Rattle.rule_terms.specs.declared.rule.Rule.{Rule}
@@ -9,6 +9,7 @@ use Rattle.rule_terms.specs.declared.term.NewTerm.{NewTerm}
 use Rattle.rule_terms.specs.Names.{names_of, with_names, is_over}
 use Rattle.rule_terms.specs.Slots.{named, nth, slot_terms, IsReadable}
 use Rattle.rule_terms.specs.Pool.{IsMarked, AreApart}
+use Rattle.rule_terms.specs.SlotReads.{places_read}
 
 -- the term at a place of the slots
 abbrev pub term_at : List Term → List PosId → TermId → NewTerm
@@ -28,6 +29,14 @@ pub record IsRule (count : ℕ) (slots : List Term) (rule : Rule) : Type 0 where
 abbrev pub AreRules : ℕ → List Term → List Rule → Type 0
 AreRules count slots rules = (p : ℕ) (rule : Rule) → slice_get rules p ≡ Some rule → IsRule count slots rule
 
+-- beside each input stands what the terms of the rule, whose position has this mask, read of it
+pub record HasReads (slots : List Term) (mask : ℕ) (rule : Rule) : Type 0 where
+  pub long : length rule.reads.items ≡ length rule.inputs
+  pub bits : (i : ℕ) → slice_index rule.reads.items i ≡ places_read i slots mask rule.places.items
+
+abbrev pub HaveReads : List Term → List ℕ → List Rule → Type 0
+HaveReads slots masks rules = (p : ℕ) (rule : Rule) → slice_get rules p ≡ Some rule → HasReads slots (slice_index masks p) rule
+
 -- the inputs of this position are marked
 abbrev pub IsMarkedAt : List Rule → List ℕ → ℕ → Type 0
 IsMarkedAt rules marks p = (rule : Rule) → slice_get rules p ≡ Some rule → IsMarked rule.inputs marks
@@ -39,4 +48,5 @@ AreApartAt rules count p = (rule : Rule) → slice_get rules p ≡ Some rule →
 pub record AreEmptyRules (count : ℕ) (rules : List Rule) : Type 0 where
   pub long : length rules ≡ count
   pub inputs : All (λ rule. rule.inputs ≡ []) rules
+  pub reads : All (λ rule. rule.reads.items ≡ []) rules
   pub places : All (λ rule. rule.places.items ≡ []) rules

@@ -1,5 +1,5 @@
 -- What the terms that a system keeps in slots read of an input.
-use Rattle.std.specs.Prelude.{ℕ, ◌^◌, ◌==◌, if◌then◌else◌, bit_or, List}
+use Rattle.std.specs.Prelude.{◌≡◌, ℕ, ◌^◌, ◌==◌, if◌then◌else◌, bit_or, List, slice_index}
 use Rattle.std.specs.List.{fold}
 use Rattle.rule_terms.specs.declared.term.Term.{Term}
 use Rattle.rule_terms.specs.declared.term.TermId.{TermId}
@@ -20,3 +20,7 @@ numbered_reads read (spread bit to of) wanted = numbered_reads read of (2 ^ bit)
 -- what the terms at these places read of it
 abbrev pub places_read : ℕ → List Term → ℕ → List TermId → ℕ
 places_read read slots wanted places = fold (λ bits place. bit_or bits (numbered_reads read (nth (slot_terms slots) place.0) wanted)) 0 places
+
+-- of a list of bits beside each input: what the term at this place reads of it was added
+abbrev pub ReadsToo : List Term → ℕ → ℕ → List ℕ → List ℕ → Type 0
+ReadsToo slots wanted place old new = (i : ℕ) → slice_index new i ≡ bit_or (slice_index old i) (numbered_reads i (nth (slot_terms slots) place) wanted)

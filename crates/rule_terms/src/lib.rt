@@ -7,6 +7,7 @@
 
 mod laws;
 mod pool;
+mod reads;
 mod rule;
 mod system;
 mod term;

@@ -5,7 +5,7 @@ ghost use Rattle.rule_terms.specs.Reads.{reads_at};
 ghost use Rattle.rule_terms.specs.System.{with_masks, with_term, value_in, value_at, inputs_of, IsSystem};
 
 use crate::pool::Pool;
-use crate::rule::{Rule, meet, meet_in, open, reads_in};
+use crate::rule::{Rule, meet, meet_in, open};
 use crate::term::NewTerm;
 use crate::value::Looked;
 use attr_ids::{NoMemory, PosId, PosList, WordList};
@@ -47,6 +47,7 @@ fn rules_of(alloc: Global, count: usize) -> Result<Vec<Rule>, NoMemory>
     for _ in 0..count {
         rules.push(Rule {
             inputs: PosList::new(alloc),
+            reads: Vec::new(alloc),
             places: SmallVec::new(alloc),
         })?;
     }
@@ -83,7 +84,14 @@ impl System {
         ensures err { OnErr result (self.new ≡ self.old) }
     {
         open(&self.rules, &mut self.pool, &mut self.marked, p);
-        meet_in(&mut self.pool, &mut self.rules[p.0 as usize], alloc, &term)
+        let mask = self.masks.as_slice()[p.0 as usize];
+        meet_in(
+            &mut self.pool,
+            &mut self.rules[p.0 as usize],
+            alloc,
+            mask,
+            &term,
+        )
     }
 
     /// How many positions the system has.
@@ -149,9 +157,7 @@ impl System {
         requires input { i < length (inputs_of self.now p.0) }
         ensures { result ≡ reads_at self.now p.0 i }
     {
-        let rule = &self.rules[p.0 as usize];
-        let mask = self.masks.as_slice()[p.0 as usize];
-        reads_in(&self.pool.slots, rule.places.as_slice(), i, mask)
+        self.rules[p.0 as usize].reads[i as usize]
     }
 }
 

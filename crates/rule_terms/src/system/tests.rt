@@ -20,6 +20,14 @@ fn boxed(alloc: Global, term: NewTerm) -> Result<Boxed<NewTerm>, NoMemory>
     Ok(Boxed::new(alloc, term)?)
 }
 
+fn is_for_threads<T: Send + Sync>(_shared: &T) {}
+
+#[test]
+fn a_system_can_be_shared_by_threads(rt: HostRuntime) -> Result<(), Fail> {
+    is_for_threads(&three(rt.alloc())?);
+    Ok(())
+}
+
 #[test]
 fn a_new_system_leaves_each_mask(rt: HostRuntime) -> Result<(), Fail> {
     let masks = WordList::from_slice(rt.alloc(), &[7, 6, 3])?;

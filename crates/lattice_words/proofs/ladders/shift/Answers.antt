@@ -2,7 +2,7 @@ use Rattle.std.proofs.Common.{◌≡◌, ◌+◌, ◌∙◌, ap, arith, le-ltb}
 use Rattle.lattice_words.specs.Words.{bit_of}
 use Rattle.lattice_words.specs.Ladders.{shifted_bit}
 use Rattle.lattice_words.proofs.WordBits.{done_more}
-use Rattle.lattice_words.proofs.LadderBits.{rungs_rise, shifted_all, stays_found, stays_not}
+use Rattle.lattice_words.proofs.LadderBits.{rungs_rise, shift_of-none, shifted_all, stays_found, stays_not}
 use Rattle.lattice_words.proofs.ladders.shift.Goals.{then-lowest-lt-BYTE_RUNGS, else-lowest-lt-BYTE_RUNGS}
 use Rattle.lattice_words.proofs.ladders.shift.Goals as goal
 
@@ -30,3 +30,6 @@ pub returns : goal.returns
 returns c =
     let loop = c.loop-rung in
     shifted_all c.args.bytes c.args.word loop.shifted loop.rung (omega arith) loop.invariant.fits loop.invariant.bits
+
+pub returns-then-word-eq0 : goal.returns-then-word-eq0
+returns-then-word-eq0 c = shift_of-none c.args.bytes c.args.word c.ranges.word.fits c.if-word-eq0.true

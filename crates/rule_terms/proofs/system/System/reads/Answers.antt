@@ -1,20 +1,20 @@
-use Rattle.std.proofs.Common.{◌≡◌, ◌∙◌, length, slice_get, Some}
+use Rattle.std.proofs.Common.{◌≡◌, ◌∙◌, ◌<◌, arith, ap, length, slice_get, slice_index, Some}
+use Rattle.std.proofs.lemmas.Grind.{get_or_default_zero}
+use Rattle.rule_terms.specs.Kept.{HasReads}
+use Rattle.rule_terms.specs.System.{inputs_of}
 use Rattle.rule_terms.proofs.Keeping.{found_rule}
+use Rattle.rule_terms.proofs.Valued.{inputs-shown}
 use Rattle.rule_terms.proofs.ReadsShown.{reads-shown}
 use Rattle.rule_terms.proofs.system.System.reads.Goals as goal
-use Rattle.rule_terms.proofs.system.System.reads.Goals.{After-as_slice-2}
-
-found : (c : After-as_slice-2) → slice_get c.self.inside.rules.items c.args.p.0 ≡ Some c.index-rule.result.now
-found c = found_rule c.self.inside c.args.self.now c.args.p.0 c.index-rule.result.now c.self.invariant c.self.view_is c.requires.place c.index-rule.ensures
-
-pub reads_in-requires-clause-readable : goal.reads_in-requires-clause-readable
-reads_in-requires-clause-readable c k place e = (
-  length c.index-rule.result.now.inputs,
-  rw c.deref.ensures.value ((c.self.invariant.rules c.args.p.0 c.index-rule.result.now (found c)).places k place (rw c.as_slice-2.ensures at e)),
-)
 
 pub returns : goal.returns
 returns c =
-    let before = (goal.at.returns c).After-as_slice-2 in
-    (rw (c.as_slice.ensures, c.deref.ensures.value, c.as_slice-2.ensures) at c.reads_in.ensures)
-    ∙ reads-shown c.self.inside c.args.self.now c.args.p.0 c.index-rule.result.now c.self.invariant c.self.view_is (found before) c.args.i c.requires.input
+    let rule = c.index.result.now in
+    let found : slice_get c.self.inside.rules.items c.args.p.0 ≡ Some rule = found_rule c.self.inside c.args.self.now c.args.p.0 rule c.self.invariant c.self.view_is c.requires.place c.index.ensures in
+    let has : HasReads c.self.inside.pool.slots.items (slice_index c.self.inside.masks c.args.p.0) rule = c.self.invariant.reads c.args.p.0 rule found in
+    let inputs : length rule.inputs ≡ length (inputs_of c.args.self.now c.args.p.0) = ap length (inputs-shown c.self.inside c.args.self.now c.args.p.0 rule c.self.invariant c.self.view_is found) in
+    let within : c.args.i < length rule.reads.items = omega (arith, has.long, c.requires.input) in
+    c.index-2.ensures
+    ∙ get_or_default_zero rule.reads.items c.args.i c.index-2.result.now within
+    ∙ has.bits c.args.i
+    ∙ reads-shown c.self.inside c.args.self.now c.args.p.0 rule c.self.invariant c.self.view_is found c.args.i c.requires.input

@@ -1,0 +1,5 @@
+pub mod Cost
+pub mod Edges
+pub mod Entering
+pub mod Naming
+pub mod RowFacts
