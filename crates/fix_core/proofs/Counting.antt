@@ -30,8 +30,10 @@ use Rattle.fix_core.proofs.Steps.{seat_here, event_kept}
 
 abbrev pub took_of : CoreSeat → ℕ
 took_of seat = seat.took
+
 abbrev pub told_of : CoreSeat → ℕ
 told_of seat = seat.told
+
 abbrev pub owed_of : CoreSeat → ℕ
 owed_of seat = owed_count seat.mode
 
@@ -51,18 +53,18 @@ module _ (s : System) (g : List Row) (of : IsGraphOf s g) (workers : ℕ) (c : C
   write_counted p n v l takes tells =
       let inside : p < length c.words = omega (arith, inv.words) in
       let both = adds (sum_by took_of c.seats) (sum_by took_of (set c.seats w v)) (sum_by dirty_count c.words) (sum_by dirty_count (set c.words p n))
-          (sum_by told_of c.seats) (sum_by told_of (set c.seats w v)) (sum_by owed_of c.seats) (sum_by owed_of (set c.seats w v)) (paid s.masks c.words g) (paid s.masks (set c.words p n) g) (length s.masks)
-          seat.took v.took (dirty_count (slice_index c.words p)) (dirty_count n) seat.told v.told (owed_of seat) (owed_of v) (paid_for (slice_index s.masks p) (slice_index c.words p) (row_at g p)) (paid_for (slice_index s.masks p) n (row_at g p))
-          (sum_seats took_of c.seats w seat v at) (sum_by-set dirty_count c.words p n 0 inside) (sum_seats told_of c.seats w seat v at) (sum_seats owed_of c.seats w seat v at)
-          (paid_set s.masks c.words g p n l inside (omega (arith, of.long))) takes tells counted.takes counted.tells in
+      (sum_by told_of c.seats) (sum_by told_of (set c.seats w v)) (sum_by owed_of c.seats) (sum_by owed_of (set c.seats w v)) (paid s.masks c.words g) (paid s.masks (set c.words p n) g) (length s.masks)
+      seat.took v.took (dirty_count (slice_index c.words p)) (dirty_count n) seat.told v.told (owed_of seat) (owed_of v) (paid_for (slice_index s.masks p) (slice_index c.words p) (row_at g p)) (paid_for (slice_index s.masks p) n (row_at g p))
+      (sum_seats took_of c.seats w seat v at) (sum_by-set dirty_count c.words p n 0 inside) (sum_seats told_of c.seats w seat v at) (sum_seats owed_of c.seats w seat v at)
+      (paid_set s.masks c.words g p n l inside (omega (arith, of.long))) takes tells counted.takes counted.tells in
       record { takes = both.0; tells = both.1 }
 
   -- a seat alone was written
   seat_counted : (v : CoreSeat) → v.took ≡ seat.took → v.told ≡ seat.told → owed_of v ≡ owed_of seat → AreCounted s g (seated c w v)
   seat_counted v took told owed = record {
-      takes = omega (arith, sum_seats took_of c.seats w seat v at, sum_seats told_of c.seats w seat v at, took, told, counted.takes);
-      tells = omega (arith, sum_seats told_of c.seats w seat v at, sum_seats owed_of c.seats w seat v at, told, owed, counted.tells);
-    }
+    takes = omega (arith, sum_seats took_of c.seats w seat v at, sum_seats told_of c.seats w seat v at, took, told, counted.takes);
+    tells = omega (arith, sum_seats told_of c.seats w seat v at, sum_seats owed_of c.seats w seat v at, told, owed, counted.tells);
+  }
 
   same_paid : (p n : ℕ) → facts_of n ≡ facts_of (slice_index c.words p) → paid_for (slice_index s.masks p) (slice_index c.words p) (row_at g p) ≡ paid_for (slice_index s.masks p) n (row_at g p)
   same_paid p n e = ap (λ m. (count_ones (slice_index s.masks p) - count_ones m) * length (row_at g p).dependents) (sym e)
@@ -79,8 +81,8 @@ module _ (s : System) (g : List Row) (of : IsGraphOf s g) (workers : ℕ) (c : C
       let word : ℕ = slice_index c.words p.0 in
       let v : CoreSeat = after_take s p word seat in
       write_counted p.0 (cleaned word) v l
-        (omega (arith, take_took p (is_clean word) refl, cleaned_count word))
-        (omega (arith, take_owes p (is_clean word) refl, same_paid p.0 (cleaned word) (cleaned_facts word)))
+      (omega (arith, take_took p (is_clean word) refl, cleaned_count word))
+      (omega (arith, take_owes p (is_clean word) refl, same_paid p.0 (cleaned word) (cleaned_facts word)))
 
   pub look_counted : (p : PosId) (looked : List (Option ℕ)) (i : ℕ) → seat.mode ≡ Open p looked → AreCounted s g (seated c w (after_look p looked i (slice_index c.words (input_at (inputs_of s p.0) i).0) seat))
   look_counted p looked i mode = seat_counted (after_look p looked i (slice_index c.words (input_at (inputs_of s p.0) i).0) seat) refl refl (sym (ap owed_count mode))
@@ -92,26 +94,28 @@ module _ (s : System) (g : List Row) (of : IsGraphOf s g) (workers : ℕ) (c : C
       let old : AreLooked s p.0 looked = subst (IsMode s g) mode (inv.modes w seat at) in
       let fits : word < 2 ^ 64 = All-get_or (λ (m : ℕ). m < 2 ^ 64) c.words p.0 0 (omega (arith, inv.words, old.place)) inv.fits in
       write_counted p.0 (cut_to new word) (after_cut g p new word seat) old.place
-        (omega (arith, cut_count new word fits))
-        (omega (arith, owing_count (owed_by g p.0 (lost_by new word)), ap owed_count mode, cut_pays (slice_index s.masks p.0) new word (row_at g p.0) (mask_holds p.0)))  where
-    mask_holds : (q : ℕ) (i : ℕ) → bit_at (facts_at c.words q) i ≤ bit_at (slice_index s.masks q) i
-    mask_holds q i = elim (cases_lt i 64) [
-        inl low ↦ inv.within q i low
-      | inr past ↦ omega (arith, bit_at_and (slice_index c.words q) (2 ^ 47 - 1) i, bit_at_above (2 ^ 47 - 1) 47 i (omega arith) (omega arith)) ]
+      (omega (arith, cut_count new word fits))
+      (omega (arith, owing_count (owed_by g p.0 (lost_by new word)), ap owed_count mode, cut_pays (slice_index s.masks p.0) new word (row_at g p.0) (mask_holds p.0))) where
+        mask_holds : (q : ℕ) (i : ℕ) → bit_at (facts_at c.words q) i ≤ bit_at (slice_index s.masks q) i
+        mask_holds q i = elim (cases_lt i 64) [
+          | inl low ↦ inv.within q i low
+          | inr past ↦ omega (arith, bit_at_and (slice_index c.words q) (2 ^ 47 - 1) i, bit_at_above (2 ^ 47 - 1) 47 i (omega arith) (omega arith))
+        ]
 
   pub tell_counted : (d : PosId) (list : List PosId) → d.0 < length s.masks → seat.mode ≡ Owes list → Contains list d →
       AreCounted s g (written c d.0 (dirtied (slice_index c.words d.0) w) w (after_tell w d list (slice_index c.words d.0) seat))
   tell_counted d list l mode has =
       let word : ℕ = slice_index c.words d.0 in
       write_counted d.0 (dirtied word w) (after_tell w d list word seat) l
-        (omega (arith, told_paid refl))
-        (omega (arith, told_few (eqb (dirty_at word w) 0), owing_count (without d list), ap owed_count mode, without_fewer d list has, same_paid d.0 (dirtied word w) (dirtied_facts word w))) where
-    told_paid : eqb (dirty_at (slice_index c.words d.0) w) 0 ≡ eqb (dirty_at (slice_index c.words d.0) w) 0 →
-        dirty_count (dirtied (slice_index c.words d.0) w) + seat.told ≡ dirty_count (slice_index c.words d.0) + (after_tell w d list (slice_index c.words d.0) seat).told
-    told_paid e = tell_pays (slice_index c.words d.0) w seat.told (eqb (dirty_at (slice_index c.words d.0) w) 0) e
-    told_few : (b : Bool) → cond b (seat.told + 1) seat.told ≤ seat.told + 1
-    told_few true = omega arith
-    told_few false = omega arith
+      (omega (arith, told_paid refl))
+      (omega (arith, told_few (eqb (dirty_at word w) 0), owing_count (without d list), ap owed_count mode, without_fewer d list has, same_paid d.0 (dirtied word w) (dirtied_facts word w))) where
+        told_paid : eqb (dirty_at (slice_index c.words d.0) w) 0 ≡ eqb (dirty_at (slice_index c.words d.0) w) 0 →
+            dirty_count (dirtied (slice_index c.words d.0) w) + seat.told ≡ dirty_count (slice_index c.words d.0) + (after_tell w d list (slice_index c.words d.0) seat).told
+        told_paid e = tell_pays (slice_index c.words d.0) w seat.told (eqb (dirty_at (slice_index c.words d.0) w) 0) e
+
+        told_few : (b : Bool) → cond b (seat.told + 1) seat.told ≤ seat.told + 1
+        told_few true = omega arith
+        told_few false = omega arith
 
   pub clear_counted : (p : PosId) → AreCounted s g (seated c w (after_clear p seat))
   clear_counted p = seat_counted (after_clear p seat) refl refl refl
@@ -182,15 +186,20 @@ opening_dirty workers k (mask ∷ masks) facts =
     let small : mask < 2 ^ 47 = All-head (λ (m : ℕ). m < 2 ^ 47) mask masks facts in
     let clean : mask / 2 ^ 48 ≡ 0 = omega arith in
     let unset : dirty_at mask (k % workers) ≡ 0 = bit_at_above mask 47 (48 + k % workers) small (omega arith) in
-    omega (arith, sum_by-cons dirty_count (dirtied mask (k % workers)) (opening_words workers (suc k) masks),
-      tell_pays mask (k % workers) 0 true (eq-eqb (dirty_at mask (k % workers)) 0 unset), ap count_ones clean, ones_zero,
-      opening_dirty workers (suc k) masks (All-tail (λ (m : ℕ). m < 2 ^ 47) mask masks facts))
+    omega (
+      arith,
+      sum_by-cons dirty_count (dirtied mask (k % workers)) (opening_words workers (suc k) masks),
+      tell_pays mask (k % workers) 0 true (eq-eqb (dirty_at mask (k % workers)) 0 unset),
+      ap count_ones clean,
+      ones_zero,
+      opening_dirty workers (suc k) masks (All-tail (λ (m : ℕ). m < 2 ^ 47) mask masks facts),
+    )
 
 pub opening_counted : (s : System) (g : List Row) (workers : ℕ) → IsSystem s → AreCounted s g (opening s workers)
 opening_counted s g workers is = record {
-    takes = omega (arith, none_of took_of workers refl, none_of told_of workers refl, opening_dirty workers 0 s.masks is.facts);
-    tells = omega (arith, none_of told_of workers refl, none_of owed_of workers refl);
-  }
+  takes = omega (arith, none_of took_of workers refl, none_of told_of workers refl, opening_dirty workers 0 s.masks is.facts);
+  tells = omega (arith, none_of told_of workers refl, none_of owed_of workers refl);
+}
 
 -- ---- the budget
 paid_within : (masks words : List ℕ) (g : List Row) → paid masks words g ≤ sum_by (λ p. retaken p.0 p.1) (zip masks g)

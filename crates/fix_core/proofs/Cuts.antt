@@ -60,8 +60,9 @@ owed_split lost (x ∷ xs) (bits ∷ reads) zero d long e = by_case (eqb (bit_an
   by_case true is = inr (eqb-true (bit_and bits lost) 0 is)
   by_case false is = inl (zero, omega arith, same_Some x d e)
 owed_split lost (x ∷ xs) (bits ∷ reads) (suc j) d long e = elim (owed_split lost xs reads j d (omega arith) e) [
-    inl has ↦ inl (by_case (eqb (bit_and bits lost) 0) has)
-  | inr none' ↦ inr none' ] where
+  | inl has ↦ inl (by_case (eqb (bit_and bits lost) 0) has)
+  | inr none' ↦ inr none'
+] where
   by_case : (b : Bool) → Contains (readers_of lost xs reads) d → Contains (cond b (readers_of lost xs reads) (x ∷ readers_of lost xs reads)) d
   by_case true has = has
   by_case false has = Contains-append_right (x ∷ []) (readers_of lost xs reads) d has
@@ -83,9 +84,10 @@ module _ (s : System) (g : List Row) (workers : ℕ) (is : IsSystem s) (c : Core
       let there : List ℕ = map (λ (q : PosId). slice_index others q.0) (inputs_of s p.0) in
       let long : length there ≡ length (values_of looked) = length-map (inputs_of s p.0) (λ (q : PosId). slice_index others q.0) ∙ (sym looked_list.long ∙ sym (values_long looked)) in
       let less : (i : ℕ) → IsWithin (slice_index there i) (slice_index (values_of looked) i) = λ i. elim (cases_lt i (length (inputs_of s p.0))) [
-          inl inside ↦ subst (λ (n : ℕ). IsWithin n (slice_index (values_of looked) i)) (sym (get_or-map (λ (q : PosId). slice_index others q.0) (inputs_of s p.0) i (record { 0 = 0 }) 0 inside))
+        | inl inside ↦ subst (λ (n : ℕ). IsWithin n (slice_index (values_of looked) i)) (sym (get_or-map (λ (q : PosId). slice_index others q.0) (inputs_of s p.0) i (record { 0 = 0 }) 0 inside))
             ((looked_list.values i (slice_index (values_of looked) i) (value_looked looked i all (omega (arith, looked_list.long)))).above others self)
         | inr past ↦ subst (λ (n : ℕ). IsWithin n (slice_index (values_of looked) i)) (sym (get_or_past there i 0 (omega (arith, length-map (inputs_of s p.0) (λ (q : PosId). slice_index others q.0)))))
-            (λ k l. omega (arith, bit_at-zero k)) ] in
+            (λ k l. omega (arith, bit_at-zero k))
+      ] in
       within_trans (slice_index others p.0) (value_in s p.0 others) (value_at s p.0 (values_of looked)) (self.supported p.0 looked_list.place)
-        (subst (λ (n : ℕ). IsWithin n (value_at s p.0 (values_of looked))) (sym (value_in-value_at s p.0 others)) (value_at-within s is p.0 there (values_of looked) long less))
+      (subst (λ (n : ℕ). IsWithin n (value_at s p.0 (values_of looked))) (sym (value_in-value_at s p.0 others)) (value_at-within s is p.0 there (values_of looked) long less))

@@ -27,7 +27,7 @@ use Rattle.fix_core.specs.declared.state.CoreMode.TheVariants.{Idle, Open, Owes}
 use Rattle.fix_core.specs.Machine.{facts_of, facts_at, dirty_at, cut_to, lost_by, values_of, has_all, owed_by, owing, written, after_cut}
 use Rattle.fix_core.specs.Invariant.{EachSeat, SomeSeat, IsDirty, OwesIt, IsFresh, IsUpToDate, IsSupported, IsCovered, AreAbove, AreLooked, AreOwed, IsMode, Knows, IsCore}
 use Rattle.fix_core.proofs.Words.{cut_dirty, cut_facts, word_after, word_here, word_there}
-use Rattle.fix_core.proofs.Lists.{entry_here, each_after, some_after}
+use Rattle.fix_core.proofs.Written.{entry_here, each_after, some_after}
 use Rattle.fix_core.proofs.Kept.{owing_mode, owing_owes}
 use Rattle.fix_core.proofs.Cuts.{values_long, value_looked, owed_split, unread_agree, left_above, looked_list}
 use Rattle.fix_core.proofs.Owing.{named_contains, input_named, entry_of, readers_pairs, readers_from}
@@ -36,21 +36,27 @@ use Rattle.fix_core.proofs.Resting.{facts_list, same_facts}
 -- what has the value of another on the bits of a mask that it lies within, lies within both
 within_by_mask : (mask a x y : ℕ) → IsWithin a mask → IsWithin a x → AgreeOn mask x y → IsWithin a y
 within_by_mask mask a x y masked less same b l = elim (cases_eq (bit_at mask b) 1) [
-    inl on ↦ omega (arith, less b l, same b l on)
-  | inr off ↦ omega (arith, masked b l, bit_at-lt mask b, off) ]
+  | inl on ↦ omega (arith, less b l, same b l on)
+  | inr off ↦ omega (arith, masked b l, bit_at-lt mask b, off)
+]
 
 module _ (s : System) (g : List Row) (workers : ℕ) (few : workers ≤ 16) (is : IsSystem s) (of : IsGraphOf s g) (c : CoreState) (inv : IsCore s g workers c) (w : ℕ) (seat : CoreSeat) (at : slice_get c.seats w ≡ Some seat)
     (p : PosId) (looked : List (Option ℕ)) (mode : seat.mode ≡ Open p looked) (all : has_all looked ≡ true) where
   abbrev word : ℕ
   word = slice_index c.words p.0
+
   abbrev new : ℕ
   new = value_at s p.0 (values_of looked)
+
   abbrev left : ℕ
   left = cut_to new word
+
   abbrev words : List ℕ
   words = set c.words p.0 left
+
   abbrev lost : ℕ
   lost = lost_by new word
+
   abbrev v : CoreSeat
   v = after_cut g p new word seat
 
@@ -73,8 +79,9 @@ module _ (s : System) (g : List Row) (workers : ℕ) (few : workers ≤ 16) (is 
   -- the facts of each position after the cut are among those before, and at the position itself among what the cut leaves
   facts_less : (q : ℕ) → IsWithin (facts_at words q) (facts_at c.words q)
   facts_less q = elim (cases_eq q p.0) [
-      inl here ↦ subst (λ n. IsWithin (facts_at words n) (facts_at c.words n)) (sym here) (λ b l. omega (arith, ap (λ n. bit_at n b) facts_here, cut_facts new word b))
-    | inr other ↦ λ b l. omega (arith, ap (λ n. bit_at n b) (facts_there q other)) ]
+    | inl here ↦ subst (λ n. IsWithin (facts_at words n) (facts_at c.words n)) (sym here) (λ b l. omega (arith, ap (λ n. bit_at n b) facts_here, cut_facts new word b))
+    | inr other ↦ λ b l. omega (arith, ap (λ n. bit_at n b) (facts_there q other))
+  ]
 
   facts_left : IsWithin (facts_at words p.0) new
   facts_left b l = omega (arith, ap (λ n. bit_at n b) facts_here, cut_facts new word b)
@@ -84,9 +91,10 @@ module _ (s : System) (g : List Row) (workers : ℕ) (few : workers ≤ 16) (is 
 
   facts_above : AreAbove s (facts_at words)
   facts_above others self q = elim (cases_eq q p.0) [
-      inl here ↦ subst (λ n. IsWithin (slice_index others n) (facts_at words n)) (sym here)
+    | inl here ↦ subst (λ n. IsWithin (slice_index others n) (facts_at words n)) (sym here)
         (λ b l. omega (arith, ap (λ n. bit_at n b) facts_here, cut_facts new word b, inv.above others self p.0 b l, left_above s g workers is c inv w seat at p looked mode all others self b l))
-    | inr other ↦ λ b l. omega (arith, ap (λ n. bit_at n b) (facts_there q other), inv.above others self q b l) ]
+    | inr other ↦ λ b l. omega (arith, ap (λ n. bit_at n b) (facts_there q other), inv.above others self q b l)
+  ]
 
   -- ---- what the cut touches
   -- a position whose reads all stay as they were
@@ -97,19 +105,21 @@ module _ (s : System) (g : List Row) (workers : ℕ) (few : workers ≤ 16) (is 
 
   unnamed : (q : ℕ) → has_name (inputs_of s q) p ≡ false → Untouched q
   unnamed q e = (
-      (λ i l b k on. ap (λ n. bit_at n b) (sym (facts_there (input_at (inputs_of s q) i).0 (λ here. let named = input_named (inputs_of s q) i p l here in let bad : false ≡ true = sym e ∙ named in cc)))),
-      (λ b k on. ap (λ n. bit_at n b) (meet-by_names (facts_at c.words) (facts_at words) (terms_at s q) (slice_index s.masks q)
+    (λ i l b k on. ap (λ n. bit_at n b) (sym (facts_there (input_at (inputs_of s q) i).0 (λ here. let named = input_named (inputs_of s q) i p l here in let bad : false ≡ true = sym e ∙ named in cc)))),
+    (λ b k on. ap (λ n. bit_at n b) (meet-by_names (facts_at c.words) (facts_at words) (terms_at s q) (slice_index s.masks q)
         (λ r named. sym (facts_there r.0 (λ here.
-          let make : ℕ → PosId = λ n. record { 0 = n } in
-          let same : r ≡ p = ap make here in
-          let bad : false ≡ true = sym e ∙ subst (λ (x : PosId). has_name (inputs_of s q) x ≡ true) same (inputs-has s q r named) in cc))))))
+        let make : ℕ → PosId = λ n. record { 0 = n } in
+        let same : r ≡ p = ap make here in
+        let bad : false ≡ true = sym e ∙ subst (λ (x : PosId). has_name (inputs_of s q) x ≡ true) same (inputs-has s q r named) in cc))))),
+  )
 
   unread : (q : ℕ) → bit_and (reads_by s q p.0) lost ≡ 0 → Untouched q
   unread q nothing =
       let each : (r : ℕ) → AgreeOn (reads_by s q r) (facts_at c.words r) (facts_at words r) = λ r. elim (cases_eq r p.0) [
-          inl here ↦ subst (λ n. AgreeOn (reads_by s q n) (facts_at c.words n) (facts_at words n)) (sym here)
+        | inl here ↦ subst (λ n. AgreeOn (reads_by s q n) (facts_at c.words n) (facts_at words n)) (sym here)
             (subst (AgreeOn (reads_by s q p.0) (facts_of word)) (sym facts_here) (unread_agree (reads_by s q p.0) new word nothing))
-        | inr other ↦ λ b l on. ap (λ n. bit_at n b) (sym (facts_there r other)) ] in
+        | inr other ↦ λ b l on. ap (λ n. bit_at n b) (sym (facts_there r other))
+      ] in
       ((λ i l. each (input_at (inputs_of s q) i).0), value-agrees s is q (facts_at c.words) (facts_at words) each)
 
   owed_or_untouched : (q : ℕ) → q < length s.masks → Contains (owed_by g p.0 lost) (record { 0 = q }) ⊎ Untouched q
@@ -121,17 +131,18 @@ module _ (s : System) (g : List Row) (workers : ℕ) (few : workers ≤ 16) (is 
         let has : Contains (row_at g p.0).dependents d = (row.dependents d).1 (l, named_contains (inputs_of s q) p e) in
         let entry = entry_of (row_at g p.0).dependents d has in
         elim (owed_split lost (row_at g p.0).dependents (row_at g p.0).reads has.0 d row.long entry) [
-          inl owed ↦ inl owed
-        | inr nothing ↦ inr (unread q (ap (λ m. bit_and m lost) (sym (row.bits has.0 d entry)) ∙ nothing)) ]
+          | inl owed ↦ inl owed
+          | inr nothing ↦ inr (unread q (ap (λ m. bit_and m lost) (sym (row.bits has.0 d entry)) ∙ nothing))
+        ]
 
   -- ---- modes
   owed_mode : IsMode s g v.mode
   owed_mode = owing_mode s g (owed_by g p.0 lost) (record {
-      of = p.0;
-      place = old.place;
-      once = λ i j d l k. let rising = readers_pairs (λ x y. x.0 < y.0) lost (row_at g p.0).dependents (row_at g p.0).reads row.rising i j d l k in λ e. absurd (omega (arith, e, rising));
-      dependents = λ d has. readers_from lost (row_at g p.0).dependents (row_at g p.0).reads d has;
-    })
+    of = p.0;
+    place = old.place;
+    once = λ i j d l k. let rising = readers_pairs (λ x y. x.0 < y.0) lost (row_at g p.0).dependents (row_at g p.0).reads row.rising i j d l k in λ e. absurd (omega (arith, e, rising));
+    dependents = λ d has. readers_from lost (row_at g p.0).dependents (row_at g p.0).reads d has;
+  })
 
   new_modes : EachSeat (λ u other. IsMode s g other.mode) (set c.seats w v)
   new_modes = each_after (λ u other. IsMode s g other.mode) (λ u other. IsMode s g other.mode) c.seats w v owed_mode (λ u other ne h. h) inv.modes
@@ -148,17 +159,17 @@ module _ (s : System) (g : List Row) (workers : ℕ) (few : workers ≤ 16) (is 
       let there : List ℕ = map (λ (q : PosId). slice_index facts q.0) (inputs_of s p.0) in
       let here : length (values_of looked) ≡ length (inputs_of s p.0) = values_long looked ∙ old.long in
       let same : bit_and (slice_index s.masks p.0) new ≡ bit_and (slice_index s.masks p.0) (value_at s p.0 there) =
-          value_at-agrees s is p.0 (values_of looked) there here (length-map (inputs_of s p.0) (λ (q : PosId). slice_index facts q.0))
-            (λ i k. subst (AgreeOn (reads_at s p.0 i) (slice_index (values_of looked) i))
-              (sym (get_or-map (λ (q : PosId). slice_index facts q.0) (inputs_of s p.0) i (record { 0 = 0 }) 0 k ∙ facts_list c.words (input_at (inputs_of s p.0) i).0))
-              (fresh i (slice_index (values_of looked) i) (value_looked looked i all (omega (arith, old.long))))) in
+      value_at-agrees s is p.0 (values_of looked) there here (length-map (inputs_of s p.0) (λ (q : PosId). slice_index facts q.0))
+      (λ i k. subst (AgreeOn (reads_at s p.0 i) (slice_index (values_of looked) i))
+      (sym (get_or-map (λ (q : PosId). slice_index facts q.0) (inputs_of s p.0) i (record { 0 = 0 }) 0 k ∙ facts_list c.words (input_at (inputs_of s p.0) i).0))
+      (fresh i (slice_index (values_of looked) i) (value_looked looked i all (omega (arith, old.long))))) in
       let whole : value s p.0 (facts_at c.words) ≡ value_at s p.0 there = ap (value s p.0) (same_facts c.words) ∙ value_in-value_at s p.0 facts in
       omega (arith, ap (λ n. bit_at n b) same, ap (λ n. bit_at n b) whole, bit_at_and (slice_index s.masks p.0) new b, bit_at_and (slice_index s.masks p.0) (value_at s p.0 there) b, on, bit_at-lt new b, bit_at-lt (value_at s p.0 there) b)
 
   cut_supported : Untouched p.0 → IsFresh s (facts_at c.words) p.0 looked → IsSupported s (facts_at words) p.0
   cut_supported un fresh =
       within_by_mask (slice_index s.masks p.0) (facts_at words p.0) new (value s p.0 (facts_at words)) (facts_masked p.0) facts_left
-        (λ b l on. fresh_value fresh b l on ∙ un.1 b l on)
+      (λ b l on. fresh_value fresh b l on ∙ un.1 b l on)
 
   up_kept : (q : ℕ) → Untouched q → (m : CoreMode) → IsMode s g m → IsUpToDate s (facts_at c.words) q m → IsUpToDate s (facts_at words) q m
   up_kept q un Idle ok up = absurd up
@@ -169,18 +180,22 @@ module _ (s : System) (g : List Row) (workers : ℕ) (few : workers ≤ 16) (is 
 
   cover_kept : (q : ℕ) → q < length s.masks → IsCovered s c.words c.seats q → IsCovered s words (set c.seats w v) q
   cover_kept q l old_cover = elim (owed_or_untouched q l) [
-      inl owed ↦ inr (inl (w, v, entry_here c.seats w seat v at, owing_owes (owed_by g p.0 lost) (record { 0 = q }) q refl owed))
+    | inl owed ↦ inr (inl (w, v, entry_here c.seats w seat v at, owing_owes (owed_by g p.0 lost) (record { 0 = q }) q refl owed))
     | inr un ↦ elim old_cover [
-        inl dirty ↦ inl (word_after IsDirty c.words p.0 left q
+      | inl dirty ↦ inl (word_after IsDirty c.words p.0 left q
           (λ here. let was : IsDirty word = subst (λ n. IsDirty (slice_index c.words n)) here dirty in (was.0, was.1, cut_dirty new word was.0 was.1 ∙ was.2)) dirty)
       | inr rest ↦ elim rest [
-          inl owes ↦ some_after (OwesIt q) (IsCovered s words (set c.seats w v) q) c.seats w seat v at (λ mine. absurd (subst (OwesIt q) mode mine)) (λ there. inr (inl there)) owes
+        | inl owes ↦ some_after (OwesIt q) (IsCovered s words (set c.seats w v) q) c.seats w seat v at (λ mine. absurd (subst (OwesIt q) mode mine)) (λ there. inr (inl there)) owes
         | inr more ↦ elim more [
-            inl supported ↦ inr (inr (inl (supported_kept q un supported)))
+          | inl supported ↦ inr (inr (inl (supported_kept q un supported)))
           | inr fresh ↦ some_after (IsUpToDate s (facts_at c.words) q) (IsCovered s words (set c.seats w v) q) c.seats w seat v at
               (λ mine. let up : (p.0 ≡ q) × IsFresh s (facts_at c.words) p.0 looked = subst (IsUpToDate s (facts_at c.words) q) mode mine in
-                inr (inr (inl (subst (IsSupported s (facts_at words)) up.0 (cut_supported (subst Untouched (sym up.0) un) up.1)))))
-              (λ there. inr (inr (inr (there.0, there.1, there.2, up_kept q un there.1.mode (new_modes there.0 there.1 there.2) there.3)))) fresh ] ] ] ]
+              inr (inr (inl (subst (IsSupported s (facts_at words)) up.0 (cut_supported (subst Untouched (sym up.0) un) up.1)))))
+              (λ there. inr (inr (inr (there.0, there.1, there.2, up_kept q un there.1.mode (new_modes there.0 there.1 there.2) there.3)))) fresh
+        ]
+      ]
+    ]
+  ]
 
   -- ---- dirty bits
   unset_kept : (u q : ℕ) → u < 16 → dirty_at (slice_index c.words q) u ≡ 0 → dirty_at (slice_index words q) u ≡ 0
@@ -194,14 +209,14 @@ module _ (s : System) (g : List Row) (workers : ℕ) (few : workers ≤ 16) (is 
 
   pub cut_kept : IsCore s g workers (written c p.0 left w v)
   cut_kept = record {
-      words = length-set c.words p.0 left ∙ inv.words;
-      fits = All-set (λ (m : ℕ). m < 2 ^ 64) c.words p.0 left
+    words = length-set c.words p.0 left ∙ inv.words;
+    fits = All-set (λ (m : ℕ). m < 2 ^ 64) c.words p.0 left
         (let had : word < 2 ^ 64 = All-get_or (λ (m : ℕ). m < 2 ^ 64) c.words p.0 0 (omega (arith, inv.words, old.place)) inv.fits in omega (arith, and_le_l word (bit_or new (2 ^ 64 - 2 ^ 47)), had)) inv.fits;
-      seats = length-set c.seats w v ∙ inv.seats;
-      within = facts_masked;
-      above = facts_above;
-      modes = new_modes;
-      covered = λ q l. cover_kept q l (inv.covered q l);
-      numbers = λ q u l h. unset_kept u q h (inv.numbers q u l h);
-      known = new_known;
-    }
+    seats = length-set c.seats w v ∙ inv.seats;
+    within = facts_masked;
+    above = facts_above;
+    modes = new_modes;
+    covered = λ q l. cover_kept q l (inv.covered q l);
+    numbers = λ q u l h. unset_kept u q h (inv.numbers q u l h);
+    known = new_known;
+  }

@@ -1,5 +1,5 @@
 pub mod Words
-pub mod Lists
+pub mod Written
 pub mod Owing
 pub mod Kept
 pub mod Cuts
@@ -10,3 +10,5 @@ pub mod Steps
 pub mod Ones
 pub mod Paying
 pub mod Counting
+pub mod Gathered
+pub mod Doing

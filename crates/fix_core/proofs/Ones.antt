@@ -11,8 +11,9 @@ ones_zero = let none : count_ones 0 ≤ 0 = ones_le_self 0 in omega arith
 ones_digit : (d : ℕ) → d < 2 → count_ones d ≡ d
 ones_digit zero l = ones_zero
 ones_digit (suc zero) l = elim (cases_eq (count_ones 1) 0) [
-    inl none ↦ absurd (omega (arith, zero_from_ones 1 none))
-  | inr some ↦ omega (arith, ones_le_self 1, some) ]
+  | inl none ↦ absurd (omega (arith, zero_from_ones 1 none))
+  | inr some ↦ omega (arith, ones_le_self 1, some)
+]
 ones_digit (suc (suc d)) l = absurd (omega arith)
 
 -- the lowest bit, and the others
@@ -27,8 +28,15 @@ ones_split n =
 pub ones_less : (k a b : ℕ) → a ≤ k → b ≤ k → ((i : ℕ) → bit_at a i ≤ bit_at b i) → count_ones a ≤ count_ones b
 ones_less zero a b la lb h = omega (arith, ones_le_self a)
 ones_less (suc k) a b la lb h =
-    omega (arith, ones_split a, ones_split b, h 0, bit_at_lowest a, bit_at_lowest b,
-      ones_less k (a / 2) (b / 2) (omega arith) (omega arith) (λ i. omega (arith, bit_at-suc a i, bit_at-suc b i, h (suc i))))
+    omega (
+      arith,
+      ones_split a,
+      ones_split b,
+      h 0,
+      bit_at_lowest a,
+      bit_at_lowest b,
+      ones_less k (a / 2) (b / 2) (omega arith) (omega arith) (λ i. omega (arith, bit_at-suc a i, bit_at-suc b i, h (suc i))),
+    )
 
 -- fewer bits that count as many are the same
 pub ones_same : (k a b : ℕ) → a ≤ k → b ≤ k → ((i : ℕ) → bit_at a i ≤ bit_at b i) → count_ones b ≤ count_ones a → a ≡ b
@@ -49,8 +57,8 @@ ones_more (suc k) a b zero la lb off on h =
     omega (arith, ones_split a, ones_split b, ap count_ones same, bit_at_lowest a, bit_at_lowest b, off, on)
 ones_more (suc k) a b (suc i) la lb off on h =
     let rest : count_ones (b / 2) ≡ count_ones (a / 2) + 1 = ones_more k (a / 2) (b / 2) i (omega arith) (omega arith)
-        (omega (arith, bit_at-suc a i, off)) (omega (arith, bit_at-suc b i, on))
-        (λ j ne. omega (arith, bit_at-suc a j, bit_at-suc b j, h (suc j) (λ e. ne (omega arith)))) in
+    (omega (arith, bit_at-suc a i, off)) (omega (arith, bit_at-suc b i, on))
+    (λ j ne. omega (arith, bit_at-suc a j, bit_at-suc b j, h (suc j) (λ e. ne (omega arith)))) in
     omega (arith, ones_split a, ones_split b, rest, h 0 (λ e. absurd (omega arith)), bit_at_lowest a, bit_at_lowest b)
 
 -- a number that is not 0 has a bit

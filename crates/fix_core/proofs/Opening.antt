@@ -61,8 +61,9 @@ module _ (s : System) (g : List Row) (workers : ℕ) (is : IsSystem s) (some : 0
   -- what holds of each word past the end, and of each mask that is dirty for one seat, holds of each word
   each_word : (P : ℕ → ℕ → Type 0) → ((p : ℕ) → length s.masks ≤ p → P p 0) → ((p w : ℕ) → p < length s.masks → w < workers → P p (dirtied (slice_index s.masks p) w)) → (p : ℕ) → P p (slice_index words p)
   each_word P past here p = elim (cases_lt p (length s.masks)) [
-      inl inside ↦ subst (P p) (sym (opened p inside)) (here p (p % workers) inside (number_small p workers some))
-    | inr outside ↦ subst (P p) (sym (get_or_past words p 0 (omega (arith, opening_long workers 0 s.masks)))) (past p outside) ]
+    | inl inside ↦ subst (P p) (sym (opened p inside)) (here p (p % workers) inside (number_small p workers some))
+    | inr outside ↦ subst (P p) (sym (get_or_past words p 0 (omega (arith, opening_long workers 0 s.masks)))) (past p outside)
+  ]
 
   none_past : (xs : List ℕ) (p i : ℕ) → length xs ≤ p → bit_at (slice_index xs p) i ≡ 0
   none_past xs p i l = ap (λ n. bit_at n i) (get_or_past xs p 0 l) ∙ bit_at-zero i
@@ -70,24 +71,28 @@ module _ (s : System) (g : List Row) (workers : ℕ) (is : IsSystem s) (some : 0
   -- the facts of a mask are its bits
   mask_facts : (p w i : ℕ) → p < length s.masks → bit_at (facts_of (dirtied (slice_index s.masks p) w)) i ≡ bit_at (slice_index s.masks p) i
   mask_facts p w i l = ap (λ n. bit_at n i) (dirtied_facts (slice_index s.masks p) w) ∙ elim (cases_lt i 47) [
-      inl low ↦ facts_low (slice_index s.masks p) i low
-    | inr high ↦ facts_high (slice_index s.masks p) i high ∙ sym (bit_at_above (slice_index s.masks p) 47 i (mask_small p l) high) ]
+    | inl low ↦ facts_low (slice_index s.masks p) i low
+    | inr high ↦ facts_high (slice_index s.masks p) i high ∙ sym (bit_at_above (slice_index s.masks p) 47 i (mask_small p l) high)
+  ]
 
   pub opening_core : IsCore s g workers (opening s workers)
   opening_core = record {
-      words = opening_long workers 0 s.masks;
-      fits = opening_fits workers 0 s.masks some few is.facts;
-      seats = length-replicate workers new_seat;
-      within = each_word (λ p word. IsWithin (facts_of word) (slice_index s.masks p))
+    words = opening_long workers 0 s.masks;
+    fits = opening_fits workers 0 s.masks some few is.facts;
+    seats = length-replicate workers new_seat;
+    within = each_word (λ p word. IsWithin (facts_of word) (slice_index s.masks p))
         (λ p l i k. omega (arith, bit_at_and 0 (2 ^ 47 - 1) i, bit_at-zero i))
         (λ p w l k i b. omega (arith, mask_facts p w i l));
-      above = λ others self. each_word (λ p word. IsWithin (slice_index others p) (facts_of word))
+    above = λ others self. each_word (λ p word. IsWithin (slice_index others p) (facts_of word))
         (λ p l i k. omega (arith, none_past others p i (omega (arith, self.long))))
         (λ p w l k i b. omega (arith, mask_facts p w i l, self.within p i b));
-      modes = λ w seat e. subst (λ (x : CoreSeat). IsMode s g x.mode) (replicated workers new_seat w seat e) tt;
-      covered = λ p l. inl (p % workers, omega (arith, number_small p workers some),
-        subst (λ n. bit_at n (48 + p % workers) ≡ 1) (sym (opened p l)) (dirtied_here (slice_index s.masks p) (p % workers)));
-      numbers = λ p u l h. each_word (λ q word. dirty_at word u ≡ 0) (λ q k. bit_at-zero (48 + u))
+    modes = λ w seat e. subst (λ (x : CoreSeat). IsMode s g x.mode) (replicated workers new_seat w seat e) tt;
+    covered = λ p l. inl (
+      p % workers,
+      omega (arith, number_small p workers some),
+      subst (λ n. bit_at n (48 + p % workers) ≡ 1) (sym (opened p l)) (dirtied_here (slice_index s.masks p) (p % workers)),
+    );
+    numbers = λ p u l h. each_word (λ q word. dirty_at word u ≡ 0) (λ q k. bit_at-zero (48 + u))
         (λ q w k j. let ne : u ≢ w = λ e. absurd (omega arith) in dirtied_other (slice_index s.masks q) w u ne ∙ bit_at_above (slice_index s.masks q) 47 (48 + u) (mask_small q k) (omega arith)) p;
-      known = λ w seat e. subst (λ (x : CoreSeat). Knows words w x) (replicated workers new_seat w seat e) (λ p has. absurd (omega (arith, has.1)));
-    }
+    known = λ w seat e. subst (λ (x : CoreSeat). Knows words w x) (replicated workers new_seat w seat e) (λ p has. absurd (omega (arith, has.1)));
+  }

@@ -47,23 +47,29 @@ pub tell_pays : (n w told : ℕ) (b : Bool) → eqb (dirty_at n w) 0 ≡ b → d
 tell_pays n w told true e =
     let a : ℕ = n / 2 ^ 48 in
     let c : ℕ = dirtied n w / 2 ^ 48 in
-    omega (arith, ones_more (a + c) a c w (omega arith) (omega arith) (high n w ∙ eqb-true (dirty_at n w) 0 e) (high (dirtied n w) w ∙ dirtied_here n w)
-      (λ j ne. high n j ∙ sym (dirtied_other n w j ne) ∙ sym (high (dirtied n w) j)))
+    omega (
+      arith,
+      ones_more (a + c) a c w (omega arith) (omega arith) (high n w ∙ eqb-true (dirty_at n w) 0 e) (high (dirtied n w) w ∙ dirtied_here n w)
+          (λ j ne. high n j ∙ sym (dirtied_other n w j ne) ∙ sym (high (dirtied n w) j)),
+    )
 tell_pays n w told false e =
     let set_already : dirty_at n w ≡ 1 = elim (cases_eq (dirty_at n w) 0) [
-        inl none ↦ (let bad : false ≡ true = sym e ∙ eq-eqb (dirty_at n w) 0 none in absurd (cc))
-      | inr some ↦ omega (arith, bit_at-lt n (48 + w), some) ] in
+      | inl none ↦ (let bad : false ≡ true = sym e ∙ eq-eqb (dirty_at n w) 0 none in absurd (cc))
+      | inr some ↦ omega (arith, bit_at-lt n (48 + w), some)
+    ] in
     let same : dirtied n w / 2 ^ 48 ≡ n / 2 ^ 48 = same_from_bits (dirtied n w / 2 ^ 48) (n / 2 ^ 48) (λ j. high (dirtied n w) j ∙ elim (cases_eq j w) [
-        inl here ↦ subst (λ u. dirty_at (dirtied n w) u ≡ bit_at (n / 2 ^ 48) u) (sym here) (dirtied_here n w ∙ sym (high n w ∙ set_already))
-      | inr other ↦ dirtied_other n w j other ∙ sym (high n j) ]) in
+      | inl here ↦ subst (λ u. dirty_at (dirtied n w) u ≡ bit_at (n / 2 ^ 48) u) (sym here) (dirtied_here n w ∙ sym (high n w ∙ set_already))
+      | inr other ↦ dirtied_other n w j other ∙ sym (high n j)
+    ]) in
     omega (arith, ap count_ones same)
 
 pub cut_count : (new n : ℕ) → n < 2 ^ 64 → dirty_count (cut_to new n) ≡ dirty_count n
 cut_count new n fits =
     let less : cut_to new n < 2 ^ 64 = omega (arith, and_le_l n (bit_or new (2 ^ 64 - 2 ^ 47)), fits) in
     ap count_ones (same_from_bits (cut_to new n / 2 ^ 48) (n / 2 ^ 48) (λ w. high (cut_to new n) w ∙ (elim (cases_lt w 16) [
-        inl low ↦ cut_dirty new n w low
-      | inr past ↦ bit_at_above (cut_to new n) 64 (48 + w) less (omega arith) ∙ sym (bit_at_above n 64 (48 + w) fits (omega arith)) ] ∙ sym (high n w))))
+      | inl low ↦ cut_dirty new n w low
+      | inr past ↦ bit_at_above (cut_to new n) 64 (48 + w) less (omega arith) ∙ sym (bit_at_above n 64 (48 + w) fits (omega arith))
+    ] ∙ sym (high n w))))
 
 -- ---- facts that fall
 -- a fall of a bits of m that are left to b, at d each, pays for as many as d
@@ -88,9 +94,9 @@ readers_none (d ∷ ds) [] = refl
 readers_none (d ∷ ds) (bits ∷ reads) =
     let nothing : bit_and bits 0 ≡ 0 = omega (arith, and_le_r bits 0) in
     by_case (eqb (bit_and bits 0) 0) (eq-eqb (bit_and bits 0) 0 nothing) (readers_none ds reads) where
-  by_case : (b : Bool) → b ≡ true → length (readers_of 0 ds reads) ≡ 0 → length (cond b (readers_of 0 ds reads) (d ∷ readers_of 0 ds reads)) ≡ 0
-  by_case true e rest = rest
-  by_case false e rest = absurd (cc)
+      by_case : (b : Bool) → b ≡ true → length (readers_of 0 ds reads) ≡ 0 → length (cond b (readers_of 0 ds reads) (d ∷ readers_of 0 ds reads)) ≡ 0
+      by_case true e rest = rest
+      by_case false e rest = absurd (cc)
 
 -- what a cut leaves owed is paid for by the facts that fell
 pub cut_pays : (mask new n : ℕ) (row : Row) → ((i : ℕ) → bit_at (facts_of n) i ≤ bit_at mask i) →
@@ -101,12 +107,13 @@ cut_pays mask new n row within =
     let less : (i : ℕ) → bit_at has i ≤ bit_at had i = λ i. omega (arith, cut_facts new n i) in
     let most : count_ones had ≤ count_ones mask = ones_less (had + mask) had mask (omega arith) (omega arith) within in
     elim (cases_lt (count_ones has) (count_ones had)) [
-      inl fell ↦ pays_more (count_ones mask) (count_ones had) (count_ones has) (length row.dependents) (length (readers_of (lost_by new n) row.dependents row.reads))
-        fell most (readers_few (lost_by new n) row.dependents row.reads)
-    | inr stayed ↦
-        let same : has ≡ had = ones_same (has + had) has had (omega arith) (omega arith) less stayed in
-        let nothing : lost_by new n ≡ 0 = same_from_bits (lost_by new n) 0 (λ i. omega (arith, bit_at_xor had has i, ap (λ m. bit_at m i) same, bit_at-zero i)) in
-        omega (arith, ap (λ l. length (readers_of l row.dependents row.reads)) nothing, readers_none row.dependents row.reads, ap (λ m. (count_ones mask - count_ones m) * length row.dependents) same) ]
+      | inl fell ↦ pays_more (count_ones mask) (count_ones had) (count_ones has) (length row.dependents) (length (readers_of (lost_by new n) row.dependents row.reads))
+          fell most (readers_few (lost_by new n) row.dependents row.reads)
+      | inr stayed ↦
+          let same : has ≡ had = ones_same (has + had) has had (omega arith) (omega arith) less stayed in
+          let nothing : lost_by new n ≡ 0 = same_from_bits (lost_by new n) 0 (λ i. omega (arith, bit_at_xor had has i, ap (λ m. bit_at m i) same, bit_at-zero i)) in
+          omega (arith, ap (λ l. length (readers_of l row.dependents row.reads)) nothing, readers_none row.dependents row.reads, ap (λ m. (count_ones mask - count_ones m) * length row.dependents) same)
+    ]
 
 -- ---- what a seat owes
 pub owing_count : (list : List PosId) → owed_count (owing list) ≡ length list

@@ -36,18 +36,21 @@ module _ (s : System) (g : List Row) (workers : ℕ) (c : CoreState) (inv : IsCo
 
   supported : (p : ℕ) → p < length s.masks → IsSupported s (facts_at c.words) p
   supported p l = elim (inv.covered p l) [
-      inl dirty ↦ absurd (omega (arith, dirty.2, quiet.clean p dirty.0 dirty.1))
+    | inl dirty ↦ absurd (omega (arith, dirty.2, quiet.clean p dirty.0 dirty.1))
     | inr rest ↦ elim rest [
-        inl owed ↦ absurd (no_seat (OwesIt p) (λ m e h. subst (OwesIt p) e h) owed)
+      | inl owed ↦ absurd (no_seat (OwesIt p) (λ m e h. subst (OwesIt p) e h) owed)
       | inr more ↦ elim more [
-          inl is ↦ is
-        | inr fresh ↦ absurd (no_seat (IsUpToDate s (facts_at c.words) p) (λ m e h. subst (IsUpToDate s (facts_at c.words) p) e h) fresh) ] ] ]
+        | inl is ↦ is
+        | inr fresh ↦ absurd (no_seat (IsUpToDate s (facts_at c.words) p) (λ m e h. subst (IsUpToDate s (facts_at c.words) p) e h) fresh)
+      ]
+    ]
+  ]
 
   -- so the facts support themselves, and are the greatest list
   pub core_greatest : IsGreatest s (map facts_of c.words)
   core_greatest = greatest_from_above s (map facts_of c.words) (record {
-      long = length-map c.words facts_of ∙ inv.words;
-      fits = All-map (λ (m : ℕ). m < 2 ^ 64) facts_of c.words (λ k d l. omega (arith, mask_lt (slice_index_or c.words k d) 47));
-      within = core_within s g workers c inv;
-      supported = subst (λ (f : ℕ → ℕ). (p : ℕ) → p < length s.masks → IsWithin (f p) (value s p f)) (same_facts c.words) supported;
-    }) (core_above s g workers c inv)
+    long = length-map c.words facts_of ∙ inv.words;
+    fits = All-map (λ (m : ℕ). m < 2 ^ 64) facts_of c.words (λ k d l. omega (arith, mask_lt (slice_index_or c.words k d) 47));
+    within = core_within s g workers c inv;
+    supported = subst (λ (f : ℕ → ℕ). (p : ℕ) → p < length s.masks → IsWithin (f p) (value s p f)) (same_facts c.words) supported;
+  }) (core_above s g workers c inv)

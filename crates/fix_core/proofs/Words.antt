@@ -18,8 +18,9 @@ facts_high n i l = omega (arith, bit_at_and n (2 ^ 47 - 1) i, bit_at_ones_above 
 -- words with the same low bits have the same facts
 pub facts_same : (a b : ℕ) → ((i : ℕ) → i < 47 → bit_at a i ≡ bit_at b i) → facts_of a ≡ facts_of b
 facts_same a b h = same_from_bits (facts_of a) (facts_of b) (λ i. elim (cases_lt i 47) [
-    inl low ↦ facts_low a i low ∙ (h i low ∙ sym (facts_low b i low))
-  | inr high ↦ facts_high a i high ∙ sym (facts_high b i high) ])
+  | inl low ↦ facts_low a i low ∙ (h i low ∙ sym (facts_low b i low))
+  | inr high ↦ facts_high a i high ∙ sym (facts_high b i high)
+])
 
 -- ---- words with their dirty bits unset
 pub cleaned_facts : (n : ℕ) → facts_of (cleaned n) ≡ facts_of n
@@ -62,8 +63,9 @@ cut_dirty new n w l = cut_high new n (48 + w) (omega arith) (omega arith)
 -- the facts of a word that was cut are those that it had and that the cut leaves
 pub cut_facts : (new n i : ℕ) → bit_at (facts_of (cut_to new n)) i ≡ min (bit_at (facts_of n) i) (bit_at new i)
 cut_facts new n i = elim (cases_lt i 47) [
-    inl low ↦ omega (arith, facts_low (cut_to new n) i low, facts_low n i low, cut_low new n i low)
-  | inr high ↦ omega (arith, facts_high (cut_to new n) i high, facts_high n i high) ]
+  | inl low ↦ omega (arith, facts_low (cut_to new n) i low, facts_low n i low, cut_low new n i low)
+  | inr high ↦ omega (arith, facts_high (cut_to new n) i high, facts_high n i high)
+]
 
 -- ---- lists of words
 -- a fact of the word at q, once the word at p was written

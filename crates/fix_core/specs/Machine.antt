@@ -102,11 +102,11 @@ without d list = filter (λ q. not (d.0 == q.0)) list
 -- ---- what each event does to the seat, where `word` is the word that it found
 abbrev pub after_take : System → PosId → ℕ → CoreSeat → CoreSeat
 after_take s p word seat = record {
-    mode = if is_clean word then Idle else Open p (replicate (length (inputs_of s p.0)) None);
-    known = seat.known ++ p ∷ [];
-    took = if is_clean word then seat.took else seat.took + 1;
-    told = seat.told;
-  }
+  mode = if is_clean word then Idle else Open p (replicate (length (inputs_of s p.0)) None);
+  known = seat.known ++ p ∷ [];
+  took = if is_clean word then seat.took else seat.took + 1;
+  told = seat.told;
+}
 
 abbrev pub after_look : PosId → List (Option ℕ) → ℕ → ℕ → CoreSeat → CoreSeat
 after_look p looked i word seat = record { mode = Open p (slice_set looked i (Some (facts_of word))); known = seat.known; took = seat.took; told = seat.told }
@@ -116,11 +116,11 @@ after_cut graph p new word seat = record { mode = owing (owed_by graph p.0 (lost
 
 abbrev pub after_tell : ℕ → PosId → List PosId → ℕ → CoreSeat → CoreSeat
 after_tell w d list word seat = record {
-    mode = owing (without d list);
-    known = without d seat.known;
-    took = seat.took;
-    told = if dirty_at word w == 0 then seat.told + 1 else seat.told;
-  }
+  mode = owing (without d list);
+  known = without d seat.known;
+  took = seat.took;
+  told = if dirty_at word w == 0 then seat.told + 1 else seat.told;
+}
 
 abbrev pub after_clear : PosId → CoreSeat → CoreSeat
 after_clear p seat = record { mode = seat.mode; known = seat.known ++ p ∷ []; took = seat.took; told = seat.told }

@@ -9,7 +9,12 @@
 mod counts;
 mod event;
 mod laws;
+mod lists;
+mod running;
+mod seat;
 mod state;
+#[cfg(test)]
+mod tests;
 
 pub use counts::{
     a_clear_keeps_the_counts, a_cut_keeps_the_counts, a_look_keeps_the_counts,
@@ -23,4 +28,5 @@ pub use laws::{
     every_event_keeps_the_core, every_list_of_events_keeps_the_core, every_state_is_above,
     the_opening_meets_the_core,
 };
+pub use running::run;
 pub use state::{CoreMode, CoreSeat, CoreSeats, CoreState, LookedList};

@@ -18,8 +18,9 @@ entry_after (z ∷ zs) zero y zero x e = inl (refl, sym (same_Some y x e))
 entry_after (z ∷ zs) zero y (suc k) x e = inr (omega arith, e)
 entry_after (z ∷ zs) (suc i) y zero x e = inr (omega arith, e)
 entry_after (z ∷ zs) (suc i) y (suc k) x e = elim (entry_after zs i y k x e) [
-    inl here ↦ inl (ap suc here.0, here.1)
-  | inr other ↦ inr (λ same. other.0 (omega arith), other.1) ]
+  | inl here ↦ inl (ap suc here.0, here.1)
+  | inr other ↦ inr (λ same. other.0 (omega arith), other.1)
+]
 
 pub entry_here : {A : Type 0} (xs : List A) (i : ℕ) (x y : A) → slice_get xs i ≡ Some x → slice_get (set xs i y) i ≡ Some y
 entry_here [] i x y e = cc
@@ -37,14 +38,16 @@ entry_there (z ∷ zs) (suc i) (suc k) x y ne e = entry_there zs i k x y (λ sam
 -- what holds of the seat that was written, and held of the others, holds of each
 pub each_after : (P Q : ℕ → CoreSeat → Type 0) (seats : List CoreSeat) (w : ℕ) (seat : CoreSeat) → Q w seat → ((u : ℕ) (other : CoreSeat) → u ≢ w → P u other → Q u other) → EachSeat P seats → EachSeat Q (set seats w seat)
 each_after P Q seats w seat here others each u other e = elim (entry_after seats w seat u other e) [
-    inl is ↦ subst (λ (y : ℕ × CoreSeat). Q y.0 y.1) (λ i. (sym is.0 i, sym is.1 i)) here
-  | inr apart ↦ others u other apart.0 (each u other apart.1) ]
+  | inl is ↦ subst (λ (y : ℕ × CoreSeat). Q y.0 y.1) (λ i. (sym is.0 i, sym is.1 i)) here
+  | inr apart ↦ others u other apart.0 (each u other apart.1)
+]
 
 -- a seat that had such a mode has it still, or it is the one that was written
 pub some_after : (P : CoreMode → Type 0) (X : Type 0) (seats : List CoreSeat) (w : ℕ) (old new : CoreSeat) → slice_get seats w ≡ Some old → (P old.mode → X) → (SomeSeat P (set seats w new) → X) → SomeSeat P seats → X
 some_after P X seats w old new at mine others has = elim (cases_eq has.0 w) [
-    inl here ↦ mine (subst (λ (x : CoreSeat). P x.mode) (same_Some has.1 old (sym has.2 ∙ (ap (slice_get seats) here ∙ at))) has.3)
-  | inr apart ↦ others (has.0, has.1, entry_there seats w has.0 has.1 new apart has.2, has.3) ]
+  | inl here ↦ mine (subst (λ (x : CoreSeat). P x.mode) (same_Some has.1 old (sym has.2 ∙ (ap (slice_get seats) here ∙ at))) has.3)
+  | inr apart ↦ others (has.0, has.1, entry_there seats w has.0 has.1 new apart has.2, has.3)
+]
 
 abbrev pub unseen : Option ℕ
 unseen = None
