@@ -16,6 +16,7 @@ use Rattle.fix_core.specs.declared.state.CoreMode.{CoreMode}
 use Rattle.fix_core.specs.declared.state.CoreMode.TheVariants.{Idle, Open, Owes}
 use Rattle.fix_core.specs.Machine.{facts_of, dirty_at, is_clean, cleaned, dirtied, cut_to, lost_by, owed_by, owing, word_at, seat_at, new_seat, written, seated, values_of, has_all, after_take, after_look, after_cut, after_tell, after_clear, take_step, look_step, cut_step, tell_step, clear_step, step, run_of, IsEvent}
 use Rattle.fix_core.specs.Runs.{IsPlaced, CanRun}
+use Rattle.fix_core.proofs.Opening.{replicated}
 use Rattle.fix_core.proofs.Written.{each_after}
 use Rattle.fix_core.proofs.Steps.{seat_here}
 
@@ -25,12 +26,12 @@ owing_placed s (d ∷ ds) = tt
 
 pub runs_less : (s : System) (c : CoreState) (n m : ℕ) → m ≤ n → CanRun s c n → CanRun s c m
 runs_less s c n m l can = record {
-    words = can.words;
-    seats = can.seats;
-    modes = can.modes;
-    took = λ w seat e. omega (arith, can.took w seat e);
-    told = λ w seat e. omega (arith, can.told w seat e);
-  }
+  words = can.words;
+  seats = can.seats;
+  modes = can.modes;
+  took = λ w seat e. omega (arith, can.took w seat e);
+  told = λ w seat e. omega (arith, can.told w seat e);
+}
 
 module _ (s : System) (g : List Row) (c : CoreState) (n : ℕ) (can : CanRun s c (n + 1)) where
   -- one seat was written, and no word more
@@ -50,12 +51,14 @@ module _ (s : System) (g : List Row) (c : CoreState) (n : ℕ) (can : CanRun s c
   same = runs_less s c (n + 1) n (omega arith) can
 
   take_up : (w : ℕ) → w < length c.seats → (p : PosId) → p.0 < length s.masks → (m : CoreMode) → CanRun s (take_step s c w p m) n × (length (take_step s c w p m).seats ≡ length c.seats)
-  take_up w l p k Idle =
-      (runs_after (set c.words p.0 (cleaned (word_at c p.0))) (length-set c.words p.0 (cleaned (word_at c p.0))) w l (after_take s p (word_at c p.0) (seat_at c w)) (placed (is_clean (word_at c p.0))) (more (is_clean (word_at c p.0))) (omega arith),
-        length-set c.seats w (after_take s p (word_at c p.0) (seat_at c w))) where
+  take_up w l p k Idle = (
+    runs_after (set c.words p.0 (cleaned (word_at c p.0))) (length-set c.words p.0 (cleaned (word_at c p.0))) w l (after_take s p (word_at c p.0) (seat_at c w)) (placed (is_clean (word_at c p.0))) (more (is_clean (word_at c p.0))) (omega arith),
+    length-set c.seats w (after_take s p (word_at c p.0) (seat_at c w)),
+  ) where
     placed : (b : Bool) → IsPlaced s (cond b Idle (Open p (replicate (length (inputs_of s p.0)) None)))
     placed true = tt
     placed false = (k, length-replicate (length (inputs_of s p.0)) None)
+
     more : (b : Bool) → cond b (seat_at c w).took ((seat_at c w).took + 1) ≤ (seat_at c w).took + 1
     more true = omega arith
     more false = omega arith
@@ -75,9 +78,11 @@ module _ (s : System) (g : List Row) (c : CoreState) (n : ℕ) (can : CanRun s c
   cut w l (Open p looked) = by_case (has_all looked) where
     after : ℕ → CoreState
     after new = written c p.0 (cut_to new (word_at c p.0)) w (after_cut g p new (word_at c p.0) (seat_at c w))
+
     cut_runs : (new : ℕ) → CanRun s (written c p.0 (cut_to new (word_at c p.0)) w (after_cut g p new (word_at c p.0) (seat_at c w))) n
     cut_runs new = runs_after (set c.words p.0 (cut_to new (word_at c p.0))) (length-set c.words p.0 (cut_to new (word_at c p.0))) w l (after_cut g p new (word_at c p.0) (seat_at c w))
         (owing_placed s (owed_by g p.0 (lost_by new (word_at c p.0)))) (omega arith) (omega arith)
+
     by_case : (b : Bool) → let new = value_at s p.0 (values_of looked) in
         let next = cond b (written c p.0 (cut_to new (word_at c p.0)) w (after_cut g p new (word_at c p.0) (seat_at c w))) c in CanRun s next n × (length next.seats ≡ length c.seats)
     by_case true = (cut_runs (value_at s p.0 (values_of looked)), length-set c.seats w (after_cut g p (value_at s p.0 (values_of looked)) (word_at c p.0) (seat_at c w)))
@@ -91,9 +96,13 @@ module _ (s : System) (g : List Row) (c : CoreState) (n : ℕ) (can : CanRun s c
     more : (b : Bool) → cond b ((seat_at c w).told + 1) (seat_at c w).told ≤ (seat_at c w).told + 1
     more true = omega arith
     more false = omega arith
+
     by_case : (b : Bool) → let next = cond b (written c d.0 (dirtied (word_at c d.0) w) w (after_tell w d list (word_at c d.0) (seat_at c w))) c in CanRun s next n × (length next.seats ≡ length c.seats)
-    by_case true = (runs_after (set c.words d.0 (dirtied (word_at c d.0) w)) (length-set c.words d.0 (dirtied (word_at c d.0) w)) w l (after_tell w d list (word_at c d.0) (seat_at c w))
-        (owing_placed s _) (omega arith) (more (eqb (dirty_at (word_at c d.0) w) 0)), length-set c.seats w (after_tell w d list (word_at c d.0) (seat_at c w)))
+    by_case true = (
+      runs_after (set c.words d.0 (dirtied (word_at c d.0) w)) (length-set c.words d.0 (dirtied (word_at c d.0) w)) w l (after_tell w d list (word_at c d.0) (seat_at c w))
+          (owing_placed s _) (omega arith) (more (eqb (dirty_at (word_at c d.0) w) 0)),
+      length-set c.seats w (after_tell w d list (word_at c d.0) (seat_at c w)),
+    )
     by_case false = (same, refl)
 
   clear : (w : ℕ) → w < length c.seats → (p : PosId) → (m : CoreMode) → CanRun s (clear_step c w p m) n × (length (clear_step c w p m).seats ≡ length c.seats)
@@ -150,3 +159,13 @@ module _ (s : System) (g : List Row) (start state next : CoreState) (events item
 
   pub next_seats : length next.seats ≡ length start.seats
   next_seats = ap (λ (x : CoreState). length x.seats) goes ∙ after.1 ∙ seats
+
+-- 100 events can be run from two seats that have done nothing
+pub opening_runs : (s : System) (words : List ℕ) → length words ≡ length s.masks → CanRun s (record { words = words; seats = new_seat ∷ new_seat ∷ [] }) 100
+opening_runs s words long = record {
+  words = long;
+  seats = omega arith;
+  modes = λ w seat e. subst (λ (x : CoreSeat). IsPlaced s x.mode) (replicated 2 new_seat w seat e) tt;
+  took = λ w seat e. subst (λ (x : CoreSeat). x.took + 100 < 2 ^ 64) (replicated 2 new_seat w seat e) (omega arith);
+  told = λ w seat e. subst (λ (x : CoreSeat). x.told + 100 < 2 ^ 64) (replicated 2 new_seat w seat e) (omega arith);
+}

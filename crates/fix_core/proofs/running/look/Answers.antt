@@ -8,7 +8,6 @@ use Rattle.fix_core.specs.Machine.{seat_at, word_at, after_look}
 use Rattle.fix_core.proofs.Doing.{open_placed, look_done, look_past}
 use Rattle.fix_core.proofs.running.look.Goals as goal
 
-
 input_within : (s : System) → IsSystem s → (p : ℕ) (inputs : List PosId) (i : ℕ) → inputs ≡ inputs_of s p → i < length inputs → (get_or inputs i (record { 0 = 0 })).0 < length s.masks
 input_within s is p inputs i e l = All-get_or (λ (q : PosId). q.0 < length s.masks) inputs i (record { 0 = 0 }) l (subst (All (λ (q : PosId). q.0 < length s.masks)) (sym e) (inputs_within s is p))
 
