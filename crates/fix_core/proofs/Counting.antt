@@ -1,11 +1,11 @@
 -- Every event keeps the two counts.
-use Rattle.std.proofs.Common.{◌≡◌, ◌≢◌, ℕ, zero, suc, ◌+◌, ◌-◌, ◌*◌, ◌/◌, ◌%◌, ◌^◌, ◌<◌, ◌≤◌, ◌==◌, Bool, true, false, cond, eqb, eq-eqb, List, [], ◌∷◌, length, replicate, slice_index, slice_index_or, slice_get, set, count_ones, Option, Some, All, Contains, refl, ap, sym, ◌∙◌, subst, arith, inl, inr, zip, mul-le-mul, le_refl}
+use Rattle.std.proofs.Common.{◌≡◌, ℕ, zero, suc, ◌+◌, ◌-◌, ◌*◌, ◌/◌, ◌%◌, ◌^◌, ◌<◌, ◌≤◌, Bool, true, false, cond, eqb, eq-eqb, List, [], ◌∷◌, length, replicate, slice_index, slice_index_or, slice_get, set, count_ones, Option, Some, All, Contains, refl, ap, sym, subst, arith, inl, inr, zip, mul-le-mul, le_refl}
 use Rattle.std.specs.Int.{bit_at}
 use Rattle.std.specs.List.{sum_by}
-use Rattle.std.proofs.lemmas.Bool.{cases_eq, cases_lt}
+use Rattle.std.proofs.lemmas.Bool.{cases_lt}
 use Rattle.std.proofs.lemmas.List.Elements.{All-head, All-tail, All-get_or}
 use Rattle.std.proofs.lemmas.List.Sums.{sum_by-set, sum_by-cons, get_or-le-sum_by}
-use Rattle.std.proofs.lemmas.Nat.Bits.{bit_at_and, bit_at_above, bit_at-zero}
+use Rattle.std.proofs.lemmas.Nat.Bits.{bit_at_and, bit_at_above}
 use Rattle.std.proofs.lemmas.Option.{get_or_from_slice_get, slice_get_within}
 use Rattle.attr_ids.specs.declared.ids.PosId.{PosId}
 use Rattle.rule_terms.specs.Names.{has_name}
@@ -19,7 +19,7 @@ use Rattle.fix_core.specs.declared.state.CoreState.{CoreState}
 use Rattle.fix_core.specs.declared.state.CoreSeat.{CoreSeat}
 use Rattle.fix_core.specs.declared.state.CoreMode.{CoreMode}
 use Rattle.fix_core.specs.declared.state.CoreMode.TheVariants.{Idle, Open, Owes}
-use Rattle.fix_core.specs.Machine.{facts_of, facts_at, dirty_at, is_clean, cleaned, dirtied, cut_to, lost_by, owed_by, owing, without, word_at, seat_at, new_seat, written, seated, values_of, has_all, after_take, after_look, after_cut, after_tell, after_clear, take_step, look_step, cut_step, tell_step, clear_step, step, run_of, IsEvent, opening_words, opening}
+use Rattle.fix_core.specs.Machine.{facts_of, facts_at, dirty_at, is_clean, cleaned, dirtied, cut_to, lost_by, owed_by, without, word_at, seat_at, new_seat, written, seated, values_of, has_all, after_take, after_look, after_cut, after_tell, after_clear, take_step, look_step, cut_step, tell_step, clear_step, step, run_of, IsEvent, opening_words, opening}
 use Rattle.fix_core.specs.Invariant.{EachSeat, AreLooked, IsMode, IsCore}
 use Rattle.fix_core.specs.Counts.{dirty_count, owed_count, paid_for, paid, AreCounted}
 use Rattle.fix_core.proofs.Words.{cleaned_facts, dirtied_facts}

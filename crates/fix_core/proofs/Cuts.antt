@@ -1,5 +1,5 @@
 -- What a seat looked at, what a cut leaves, and whom it owes: the parts of the law that a cut keeps the core invariant.
-use Rattle.std.proofs.Common.{◌≡◌, ◌≢◌, ◌⊎◌, ℕ, zero, suc, ◌+◌, ◌^◌, ◌<◌, ◌≤◌, ◌==◌, min, Bool, true, false, cond, eqb, eqb-true, List, [], ◌∷◌, length, length-set, map, slice_index, slice_get, set, bit_and, bit_xor, Option, Some, None, All, Contains, refl, ap, sym, ◌∙◌, subst, arith, inl, inr}
+use Rattle.std.proofs.Common.{◌≡◌, ◌⊎◌, ℕ, zero, suc, ◌<◌, Bool, true, false, cond, eqb, eqb-true, List, [], ◌∷◌, length, map, slice_index, slice_get, bit_and, Option, Some, None, Contains, refl, ap, sym, ◌∙◌, subst, arith, inl, inr}
 use Rattle.std.specs.Int.{bit_at}
 use Rattle.std.proofs.lemmas.Bool.{cases_lt}
 use Rattle.std.proofs.lemmas.List.{get_or_past, get_or-map, length-map}
@@ -19,7 +19,7 @@ use Rattle.fix_core.specs.declared.state.CoreState.{CoreState}
 use Rattle.fix_core.specs.declared.state.CoreSeat.{CoreSeat}
 use Rattle.fix_core.specs.declared.state.CoreMode.TheVariants.{Open}
 use Rattle.fix_core.specs.Machine.{facts_of, cut_to, lost_by, readers_of, values_of, has_all}
-use Rattle.fix_core.specs.Invariant.{AreLooked, IsLookedAt, IsMode, IsCore}
+use Rattle.fix_core.specs.Invariant.{AreLooked, IsMode, IsCore}
 
 -- ---- what was looked at
 pub values_long : (looked : List (Option ℕ)) → length (values_of looked) ≡ length looked

@@ -1,7 +1,6 @@
 -- A cut keeps the core invariant.
-use Rattle.std.proofs.Common.{◌≡◌, ◌≢◌, ◌⊎◌, ℕ, zero, suc, ◌+◌, ◌-◌, ◌^◌, ◌<◌, ◌≤◌, min, Bool, true, false, List, [], ◌∷◌, length, length-set, map, slice_index, slice_get, set, bit_and, bit_or, Option, Some, None, All, Contains, refl, ap, sym, ◌∙◌, subst, arith, inl, inr}
+use Rattle.std.proofs.Common.{◌≡◌, ◌≢◌, ◌⊎◌, ℕ, ◌-◌, ◌^◌, ◌<◌, ◌≤◌, Bool, true, false, List, length, length-set, map, slice_index, slice_get, set, bit_and, bit_or, Option, Some, Contains, refl, ap, sym, ◌∙◌, subst, arith, inl, inr}
 use Rattle.std.specs.Int.{bit_at}
-use Rattle.std.specs.List.{AllPairs}
 use Rattle.std.proofs.lemmas.Bool.{cases_eq}
 use Rattle.std.proofs.lemmas.Nat.{and_le_l}
 use Rattle.std.proofs.lemmas.Nat.Bits.{bit_at_and, bit_at-lt}
@@ -10,12 +9,10 @@ use Rattle.std.proofs.lemmas.List.Elements.{All-set, All-get_or}
 use Rattle.std.proofs.lemmas.Option.{slice_get_within}
 use Rattle.attr_ids.specs.declared.ids.PosId.{PosId}
 use Rattle.lattice_words.specs.Words.{IsWithin}
-use Rattle.rule_terms.specs.Greatest.{IsSelfSupporting}
 use Rattle.rule_terms.specs.Names.{has_name}
 use Rattle.rule_terms.specs.Reads.{reads_at, reads_by, AgreeOn}
 use Rattle.rule_terms.specs.Slots.{input_at}
-use Rattle.rule_terms.specs.System.{System, IsSystem, inputs_of, terms_at, value, value_at, value_in}
-use Rattle.rule_terms.proofs.Greatest.{within_refl}
+use Rattle.rule_terms.specs.System.{System, IsSystem, inputs_of, terms_at, value, value_at}
 use Rattle.rule_terms.proofs.Local.{value-agrees, value_at-agrees}
 use Rattle.rule_terms.proofs.Naming.{meet-by_names, inputs-has, value_in-value_at}
 use Rattle.dep_graph.specs.declared.graph.Row.{Row}
@@ -24,8 +21,8 @@ use Rattle.fix_core.specs.declared.state.CoreState.{CoreState}
 use Rattle.fix_core.specs.declared.state.CoreSeat.{CoreSeat}
 use Rattle.fix_core.specs.declared.state.CoreMode.{CoreMode}
 use Rattle.fix_core.specs.declared.state.CoreMode.TheVariants.{Idle, Open, Owes}
-use Rattle.fix_core.specs.Machine.{facts_of, facts_at, dirty_at, cut_to, lost_by, values_of, has_all, owed_by, owing, written, after_cut}
-use Rattle.fix_core.specs.Invariant.{EachSeat, SomeSeat, IsDirty, OwesIt, IsFresh, IsUpToDate, IsSupported, IsCovered, AreAbove, AreLooked, AreOwed, IsMode, Knows, IsCore}
+use Rattle.fix_core.specs.Machine.{facts_of, facts_at, dirty_at, cut_to, lost_by, values_of, has_all, owed_by, written, after_cut}
+use Rattle.fix_core.specs.Invariant.{EachSeat, IsDirty, OwesIt, IsFresh, IsUpToDate, IsSupported, IsCovered, AreAbove, AreLooked, IsMode, Knows, IsCore}
 use Rattle.fix_core.proofs.Words.{cut_dirty, cut_facts, word_after, word_here, word_there}
 use Rattle.fix_core.proofs.Written.{entry_here, each_after, some_after}
 use Rattle.fix_core.proofs.Kept.{owing_mode, owing_owes}

@@ -1,5 +1,5 @@
 -- States from which events can be run.
-use Rattle.std.proofs.Common.{◌≡◌, ◌≢◌, ℕ, zero, suc, ◌+◌, ◌-◌, ◌^◌, ◌<◌, ◌≤◌, ◌==◌, Bool, true, false, cond, eqb, List, [], ◌∷◌, length, length-set, replicate, set, slice_index, slice_get, get_or, take, Option, Some, None, All, refl, ap, sym, ◌∙◌, subst, arith}
+use Rattle.std.proofs.Common.{◌≡◌, ℕ, ◌+◌, ◌-◌, ◌^◌, ◌<◌, ◌≤◌, Bool, true, false, cond, eqb, List, [], ◌∷◌, length, length-set, replicate, set, slice_get, get_or, take, Option, Some, None, All, refl, ap, sym, ◌∙◌, subst, arith}
 use Rattle.std.proofs.lemmas.List.{length-replicate, set-get_or, set_past}
 use Rattle.std.proofs.lemmas.List.Elements.{All-get_or}
 use Rattle.std.proofs.lemmas.List.Sums.{fold_more}
@@ -76,9 +76,6 @@ module _ (s : System) (g : List Row) (c : CoreState) (n : ℕ) (can : CanRun s c
   cut : (w : ℕ) → w < length c.seats → (m : CoreMode) → CanRun s (cut_step s g c w m) n × (length (cut_step s g c w m).seats ≡ length c.seats)
   cut w l Idle = (same, refl)
   cut w l (Open p looked) = by_case (has_all looked) where
-    after : ℕ → CoreState
-    after new = written c p.0 (cut_to new (word_at c p.0)) w (after_cut g p new (word_at c p.0) (seat_at c w))
-
     cut_runs : (new : ℕ) → CanRun s (written c p.0 (cut_to new (word_at c p.0)) w (after_cut g p new (word_at c p.0) (seat_at c w))) n
     cut_runs new = runs_after (set c.words p.0 (cut_to new (word_at c p.0))) (length-set c.words p.0 (cut_to new (word_at c p.0))) w l (after_cut g p new (word_at c p.0) (seat_at c w))
         (owing_placed s (owed_by g p.0 (lost_by new (word_at c p.0)))) (omega arith) (omega arith)

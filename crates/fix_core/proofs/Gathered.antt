@@ -1,12 +1,8 @@
 -- Lists that a loop gathers, as far as it came.
-use Rattle.std.proofs.Common.{◌≡◌, ◌≢◌, ℕ, zero, suc, ◌+◌, ◌<◌, ◌≤◌, ◌==◌, ◌||◌, Bool, true, false, not, cond, eqb, eqb-true, eq-eqb, ne_eqb, List, [], ◌∷◌, ◌++◌, length, take, get_or, slice_index, slice_get, bit_and, Option, Some, None, refl, ap, sym, ◌∙◌, subst, arith, inl, inr, append-nil, length-take}
-use Rattle.std.specs.List.{filter, list_any}
+use Rattle.std.proofs.Common.{◌≡◌, ◌≢◌, ℕ, zero, suc, ◌+◌, ◌<◌, Bool, true, false, cond, eqb, eq-eqb, ne_eqb, List, [], ◌∷◌, ◌++◌, length, take, get_or, slice_index, bit_and, Option, Some, None, refl, ap, ◌∙◌, arith, append-nil, length-take}
 use Rattle.std.proofs.lemmas.List.{take_more}
-use Rattle.std.proofs.lemmas.List.Elements.{filter_more}
-use Rattle.std.proofs.lemmas.List.Folds.{list_any_more, list_any_at}
 use Rattle.attr_ids.specs.declared.ids.PosId.{PosId}
-use Rattle.rule_terms.specs.Names.{has_name}
-use Rattle.fix_core.specs.Machine.{values_of, has_all, readers_of, without}
+use Rattle.fix_core.specs.Machine.{values_of, has_all, readers_of}
 
 -- ---- values that were looked at
 values_append : (xs : List (Option ℕ)) (x : ℕ) → values_of (xs ++ Some x ∷ []) ≡ values_of xs ++ x ∷ []

@@ -1,5 +1,5 @@
 -- Taking up, looking, telling and clearing keep the core invariant.
-use Rattle.std.proofs.Common.{◌≡◌, ◌≢◌, ◌⊎◌, ℕ, ◌+◌, ◌/◌, ◌^◌, ◌<◌, ◌≤◌, ◌==◌, Bool, true, false, if◌then◌else◌, eqb, ne_eqb, List, [], ◌∷◌, ◌++◌, length, length-set, replicate, slice_index, slice_get, set, Option, Some, None, All, Contains, refl, ap, sym, ◌∙◌, subst, arith, inl, inr}
+use Rattle.std.proofs.Common.{◌≡◌, ◌≢◌, ℕ, ◌+◌, ◌/◌, ◌^◌, ◌<◌, ◌≤◌, Bool, true, false, if◌then◌else◌, ne_eqb, List, [], ◌∷◌, length, length-set, replicate, slice_index, slice_get, set, Option, Some, None, Contains, refl, ap, sym, ◌∙◌, subst, arith, inl, inr}
 use Rattle.std.specs.Int.{bit_at}
 use Rattle.std.proofs.Math.Pow.{pow-lt}
 use Rattle.std.proofs.lemmas.Bool.{cases_eq}
@@ -17,10 +17,9 @@ use Rattle.rule_terms.specs.System.{System, inputs_of}
 use Rattle.dep_graph.specs.declared.graph.Row.{Row}
 use Rattle.fix_core.specs.declared.state.CoreState.{CoreState}
 use Rattle.fix_core.specs.declared.state.CoreSeat.{CoreSeat}
-use Rattle.fix_core.specs.declared.state.CoreMode.{CoreMode}
 use Rattle.fix_core.specs.declared.state.CoreMode.TheVariants.{Idle, Open, Owes}
 use Rattle.fix_core.specs.Machine.{facts_of, facts_at, dirty_at, is_clean, cleaned, dirtied, written, seated, owing, without, after_take, after_look, after_tell, after_clear}
-use Rattle.fix_core.specs.Invariant.{EachSeat, SomeSeat, IsDirty, OwesIt, IsFresh, IsUpToDate, IsSupported, IsCovered, AreAbove, IsLookedAt, AreLooked, AreOwed, IsMode, Knows, IsCore}
+use Rattle.fix_core.specs.Invariant.{SomeSeat, IsDirty, OwesIt, IsFresh, IsUpToDate, IsSupported, IsCovered, AreAbove, IsLookedAt, AreLooked, AreOwed, IsMode, Knows, IsCore}
 use Rattle.fix_core.proofs.Words.{cleaned_facts, cleaned_clean, cleaned_fits, dirtied_facts, dirtied_here, dirtied_other, word_after, word_here, word_there, facts_kept}
 use Rattle.fix_core.proofs.Written.{entry_after, entry_here, each_after, some_after, none_looked, without_apart, without_keeps}
 

@@ -10,5 +10,6 @@ pub mod Steps
 pub mod Ones
 pub mod Paying
 pub mod Counting
+pub mod Joining
 pub mod Gathered
 pub mod Doing

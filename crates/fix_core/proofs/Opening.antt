@@ -9,12 +9,11 @@ use Rattle.std.proofs.lemmas.List.{get_or_past, length-replicate}
 use Rattle.std.proofs.lemmas.List.Elements.{All-cons, All-head, All-nil, All-tail, All-get_or}
 use Rattle.std.proofs.lemmas.Option.{same_Some}
 use Rattle.lattice_words.specs.Words.{IsWithin}
-use Rattle.rule_terms.specs.Greatest.{IsSelfSupporting}
 use Rattle.rule_terms.specs.System.{System, IsSystem}
 use Rattle.dep_graph.specs.declared.graph.Row.{Row}
 use Rattle.fix_core.specs.declared.state.CoreSeat.{CoreSeat}
 use Rattle.fix_core.specs.Machine.{facts_of, dirty_at, dirtied, new_seat, opening_words, opening}
-use Rattle.fix_core.specs.Invariant.{IsDirty, IsMode, Knows, IsCore}
+use Rattle.fix_core.specs.Invariant.{IsMode, Knows, IsCore}
 use Rattle.fix_core.proofs.Words.{facts_low, facts_high, dirtied_facts, dirtied_here, dirtied_other}
 
 -- ---- the words at the opening

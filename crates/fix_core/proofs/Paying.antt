@@ -1,20 +1,18 @@
 -- What each event changes of the counts of one word and one seat.
-use Rattle.std.proofs.Common.{◌≡◌, ◌≢◌, ℕ, zero, suc, ◌+◌, ◌-◌, ◌*◌, ◌/◌, ◌%◌, ◌^◌, ◌<◌, ◌≤◌, ◌==◌, max, Bool, true, false, not, cond, eqb, eqb-true, eq-eqb, ne_eqb, List, [], ◌∷◌, length, slice_index, slice_index_or, slice_get, set, bit_and, bit_or, bit_xor, count_ones, Some, Contains, refl, ap, sym, ◌∙◌, subst, arith, inl, inr, suc-mul, mul-le-mul, le_refl, mod-lt}
+use Rattle.std.proofs.Common.{◌≡◌, ◌≢◌, ℕ, zero, suc, ◌+◌, ◌-◌, ◌*◌, ◌/◌, ◌%◌, ◌^◌, ◌<◌, ◌≤◌, Bool, true, false, not, cond, eqb, eqb-true, eq-eqb, List, [], ◌∷◌, length, slice_index, slice_index_or, slice_get, set, bit_and, bit_or, count_ones, Some, Contains, refl, ap, sym, ◌∙◌, subst, arith, inl, inr, suc-mul, mul-le-mul, le_refl, mod-lt}
 use Rattle.std.specs.Int.{bit_at}
-use Rattle.std.specs.List.{filter, sum_by}
-use Rattle.std.proofs.Math.Pow.{pow-lt}
+use Rattle.std.specs.List.{sum_by}
 use Rattle.std.specs.Int.Bits.{mask_lt}
 use Rattle.std.proofs.lemmas.Bool.{cases_eq, cases_lt}
-use Rattle.std.proofs.lemmas.List.Sums.{sum_by-set, sum_by-cons}
+use Rattle.std.proofs.lemmas.List.Sums.{sum_by-set}
 use Rattle.std.proofs.lemmas.Nat.{and_le_l, and_le_r, div-add-mod'}
 use Rattle.std.proofs.lemmas.Nat.Bits.{bit_at_cat_high, bit_at_above, bit_at_xor, bit_at-zero, bit_at-lt, same_from_bits}
 use Rattle.std.proofs.lemmas.Option.{get_or_from_slice_get, slice_get_within}
 use Rattle.attr_ids.specs.declared.ids.PosId.{PosId}
 use Rattle.dep_graph.specs.declared.graph.Row.{Row}
-use Rattle.dep_graph.specs.Graph.{empty_row, row_at}
+use Rattle.dep_graph.specs.Graph.{row_at}
 use Rattle.fix_core.specs.declared.state.CoreSeat.{CoreSeat}
-use Rattle.fix_core.specs.declared.state.CoreMode.{CoreMode}
-use Rattle.fix_core.specs.Machine.{facts_of, dirty_at, is_clean, cleaned, dirtied, cut_to, lost_by, readers_of, owed_by, owing, without}
+use Rattle.fix_core.specs.Machine.{facts_of, dirty_at, is_clean, cleaned, dirtied, cut_to, lost_by, readers_of, owing, without}
 use Rattle.fix_core.specs.Counts.{dirty_count, owed_count, paid_for, paid}
 use Rattle.fix_core.proofs.Words.{dirtied_here, dirtied_other, cut_dirty, cut_facts}
 use Rattle.fix_core.proofs.Ones.{ones_zero, ones_less, ones_same, ones_more, ones_some}

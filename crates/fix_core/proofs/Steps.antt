@@ -1,11 +1,10 @@
 -- Every event, and every list of events, keeps the core invariant.
-use Rattle.std.proofs.Common.{◌≡◌, ℕ, zero, suc, ◌+◌, ◌<◌, ◌≤◌, ◌==◌, Bool, true, false, cond, eqb, eqb-true, List, [], ◌∷◌, length, slice_get, slice_index, Option, Some, All, refl, ap, sym, ◌∙◌, subst, arith}
+use Rattle.std.proofs.Common.{◌≡◌, ℕ, ◌<◌, ◌≤◌, Bool, true, false, cond, eqb, eqb-true, List, [], ◌∷◌, length, slice_get, Some, All, refl, arith}
 use Rattle.std.proofs.lemmas.List.Elements.{All-head, All-tail}
 use Rattle.std.proofs.lemmas.Option.{slice_get-get_or}
 use Rattle.attr_ids.specs.declared.ids.PosId.{PosId}
 use Rattle.rule_terms.specs.Names.{has_name}
-use Rattle.rule_terms.specs.Slots.{input_at}
-use Rattle.rule_terms.specs.System.{System, IsSystem, inputs_of, value_at}
+use Rattle.rule_terms.specs.System.{System, IsSystem, value_at}
 use Rattle.dep_graph.specs.declared.graph.Row.{Row}
 use Rattle.dep_graph.specs.Graph.{IsGraphOf}
 use Rattle.fix_core.specs.declared.event.CoreEvent.{CoreEvent}

@@ -1,11 +1,9 @@
 -- Bits of words: what taking up, telling and cutting leave of them.
-use Rattle.std.proofs.Common.{◌≡◌, ◌≢◌, ℕ, zero, suc, ◌+◌, ◌-◌, ◌/◌, ◌^◌, ◌<◌, ◌≤◌, ◌==◌, min, Bool, true, false, eqb, eqb-true, eq-eqb, bit_and, bit_or, List, [], ◌∷◌, length, slice_index, set, refl, ap, sym, ◌∙◌, subst, arith, inl, inr}
+use Rattle.std.proofs.Common.{◌≡◌, ◌≢◌, ℕ, zero, suc, ◌+◌, ◌-◌, ◌^◌, ◌<◌, ◌≤◌, min, bit_or, List, [], ◌∷◌, length, slice_index, set, refl, ap, sym, ◌∙◌, arith, inl, inr}
 use Rattle.std.specs.Int.{bit_at}
 use Rattle.std.specs.Int.Bits.{and_lt}
-use Rattle.std.proofs.lemmas.Bool.{cases_eq, cases_lt}
-use Rattle.std.proofs.lemmas.Nat.{or_lt}
+use Rattle.std.proofs.lemmas.Bool.{cases_lt}
 use Rattle.std.proofs.lemmas.Nat.Bits.{bit_at_and, bit_at_or, bit_at_ones, bit_at_ones_above, bit_at_mask_below, bit_at_mask_inside, bit_at-pow_same, bit_at-pow_other, bit_at-lt, same_from_bits}
-use Rattle.lattice_words.specs.Words.{IsWithin}
 use Rattle.fix_core.specs.Machine.{facts_of, facts_at, dirty_at, cleaned, dirtied, cut_to}
 
 -- ---- facts

@@ -1,13 +1,11 @@
 -- How often words are taken up, counted by what is dirty, told and owed.
-use Rattle.std.specs.Prelude.{◌≡◌, ℕ, zero, suc, ◌+◌, ◌-◌, ◌*◌, ◌/◌, ◌^◌, ◌<◌, ◌≤◌, List, [], ◌∷◌, length, sum_by, count_ones, zip, slice_index}
+use Rattle.std.specs.Prelude.{ℕ, ◌+◌, ◌-◌, ◌*◌, ◌/◌, ◌^◌, ◌≤◌, List, [], ◌∷◌, length, sum_by, count_ones}
 use Rattle.dep_graph.specs.declared.graph.Row.{Row}
-use Rattle.dep_graph.specs.Graph.{row_at}
 use Rattle.rule_terms.specs.System.{System}
 use Rattle.fix_core.specs.declared.state.CoreState.{CoreState}
-use Rattle.fix_core.specs.declared.state.CoreSeat.{CoreSeat}
 use Rattle.fix_core.specs.declared.state.CoreMode.{CoreMode}
 use Rattle.fix_core.specs.declared.state.CoreMode.TheVariants.{Idle, Open, Owes}
-use Rattle.fix_core.specs.Machine.{facts_of, dirty_at}
+use Rattle.fix_core.specs.Machine.{facts_of}
 
 -- how many dirty bits of a word are set
 abbrev pub dirty_count : ℕ → ℕ

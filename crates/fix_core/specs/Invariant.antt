@@ -1,5 +1,5 @@
 -- What holds in every state of the core machine, and what a state at rest has.
-use Rattle.std.specs.Prelude.{◌≡◌, ◌≢◌, ◌⊎◌, ℕ, ◌+◌, ◌^◌, ◌<◌, ◌≤◌, List, length, map, slice_get, slice_index, Option, Some, None, All, Contains}
+use Rattle.std.specs.Prelude.{◌≡◌, ◌≢◌, ◌⊎◌, ℕ, ◌^◌, ◌<◌, ◌≤◌, List, length, slice_get, slice_index, Option, Some, All, Contains}
 use Rattle.std.specs.List.{AllPairs}
 use Rattle.attr_ids.specs.declared.ids.PosId.{PosId}
 use Rattle.lattice_words.specs.Words.{IsWithin}
@@ -13,7 +13,7 @@ use Rattle.fix_core.specs.declared.state.CoreState.{CoreState}
 use Rattle.fix_core.specs.declared.state.CoreSeat.{CoreSeat}
 use Rattle.fix_core.specs.declared.state.CoreMode.{CoreMode}
 use Rattle.fix_core.specs.declared.state.CoreMode.TheVariants.{Idle, Open, Owes}
-use Rattle.fix_core.specs.Machine.{facts_of, facts_at, dirty_at, word_at}
+use Rattle.fix_core.specs.Machine.{facts_at, dirty_at}
 
 -- the fact holds of each seat, by its number
 abbrev pub EachSeat : (ℕ → CoreSeat → Type 0) → List CoreSeat → Type 0

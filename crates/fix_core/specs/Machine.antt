@@ -1,5 +1,5 @@
 -- The core machine: words of facts with a dirty bit for each seat, and seats that take words up, cut them and tell of it.
-use Rattle.std.specs.Prelude.{◌≡◌, ℕ, zero, suc, ◌+◌, ◌-◌, ◌/◌, ◌%◌, ◌^◌, ◌<◌, ◌≤◌, ◌==◌, if◌then◌else◌, Bool, true, false, not, ◌&&◌, bit_and, bit_or, bit_xor, List, [], ◌∷◌, ◌++◌, length, map, replicate, slice_get, slice_index, slice_index_or, slice_set, Option, Some, None, All, Contains}
+use Rattle.std.specs.Prelude.{ℕ, suc, ◌+◌, ◌-◌, ◌/◌, ◌%◌, ◌^◌, ◌<◌, ◌==◌, if◌then◌else◌, Bool, true, false, not, bit_and, bit_or, bit_xor, List, [], ◌∷◌, ◌++◌, length, replicate, slice_index, slice_index_or, slice_set, Option, Some, None}
 use Rattle.std.specs.List.{filter, fold}
 use Rattle.std.specs.Int.{bit_at}
 use Rattle.attr_ids.specs.declared.ids.PosId.{PosId}
@@ -66,6 +66,11 @@ written c p word w seat = record { words = slice_set c.words p word; seats = sli
 -- the state with one seat written
 abbrev pub seated : CoreState → ℕ → CoreSeat → CoreState
 seated c w seat = record { words = c.words; seats = slice_set c.seats w seat }
+
+-- the state once the seat w was joined into the seat u, which takes over its counts
+abbrev pub joined : CoreState → ℕ → CoreSeat → ℕ → CoreSeat → CoreState
+joined c u first w other =
+    seated (seated c w new_seat) u (record { mode = first.mode; known = first.known; took = first.took + other.took; told = first.told + other.told })
 
 -- ---- what a seat looked at, and whom it owes
 -- each value that was looked at, and 0 where none was

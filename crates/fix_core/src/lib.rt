@@ -17,16 +17,17 @@ mod state;
 mod tests;
 
 pub use counts::{
-    a_clear_keeps_the_counts, a_cut_keeps_the_counts, a_look_keeps_the_counts,
-    a_take_keeps_the_counts, a_tell_keeps_the_counts, counted_seats_are_within_the_budget,
-    every_event_keeps_the_counts, no_run_takes_more_than_the_budget, the_opening_meets_the_counts,
+    a_clear_keeps_the_counts, a_cut_keeps_the_counts, a_join_keeps_the_counts,
+    a_look_keeps_the_counts, a_take_keeps_the_counts, a_tell_keeps_the_counts,
+    counted_seats_are_within_the_budget, every_event_keeps_the_counts,
+    no_run_takes_more_than_the_budget, the_opening_meets_the_counts,
 };
 pub use event::{CoreEvent, EventList};
 pub use laws::{
-    a_clear_keeps_the_core, a_cut_keeps_the_core, a_look_keeps_the_core,
+    a_clear_keeps_the_core, a_cut_keeps_the_core, a_join_keeps_the_core, a_look_keeps_the_core,
     a_quiet_state_has_the_greatest_words, a_take_keeps_the_core, a_tell_keeps_the_core,
     every_event_keeps_the_core, every_list_of_events_keeps_the_core, every_state_is_above,
-    the_opening_meets_the_core,
+    owed_positions_are_positions, the_opening_meets_the_core,
 };
 pub use running::run;
 pub use state::{CoreMode, CoreSeat, CoreSeats, CoreState, LookedList};

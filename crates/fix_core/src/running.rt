@@ -135,10 +135,11 @@ fn cut(alloc: Global, s: &System, g: &DepGraph, c: &mut CoreState, w: u8) -> Res
     Ok(())
 }
 
-fn tell(alloc: Global, s: &System, c: &mut CoreState, w: u8, d: PosId) -> Result<(), NoMemory>
-    requires run { CanRun s.now c.old 1 }
+fn tell(alloc: Global, c: &mut CoreState, w: u8, d: PosId) -> Result<(), NoMemory>
+    requires seats { length c.old.seats ≤ 16 }
     requires seat { w < length c.old.seats }
-    requires position { d.0 < length s.now.masks }
+    requires told { (seat_at c.old w).told + 1 < 2 ^ 64 }
+    requires position { d.0 < length c.old.words }
     ensures { OnOk result (c.new ≡ tell_step c.old w d (seat_at c.old w).mode) }
 {
     let word = c.word(d);
@@ -154,10 +155,10 @@ fn tell(alloc: Global, s: &System, c: &mut CoreState, w: u8, d: PosId) -> Result
     Ok(())
 }
 
-fn clear(alloc: Global, s: &System, c: &mut CoreState, w: u8, p: PosId) -> Result<(), NoMemory>
-    requires run { CanRun s.now c.old 1 }
+fn clear(alloc: Global, c: &mut CoreState, w: u8, p: PosId) -> Result<(), NoMemory>
+    requires seats { length c.old.seats ≤ 16 }
     requires seat { w < length c.old.seats }
-    requires position { p.0 < length s.now.masks }
+    requires position { p.0 < length c.old.words }
     ensures { OnOk result (c.new ≡ clear_step c.old w p (seat_at c.old w).mode) }
 {
     let unset = c.word(p) >> (48 + w) & 1 == 0;
@@ -194,8 +195,8 @@ fn do_event(
         CoreEvent::Take { w, p } => take_up(alloc, s, c, w, p),
         CoreEvent::Look { w, i } => look(alloc, s, c, w, i),
         CoreEvent::Cut { w } => cut(alloc, s, g, c, w),
-        CoreEvent::Tell { w, d } => tell(alloc, s, c, w, d),
-        CoreEvent::Clear { w, p } => clear(alloc, s, c, w, p),
+        CoreEvent::Tell { w, d } => tell(alloc, c, w, d),
+        CoreEvent::Clear { w, p } => clear(alloc, c, w, p),
     }
 }
 

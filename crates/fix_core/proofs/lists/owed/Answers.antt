@@ -1,4 +1,4 @@
-use Rattle.std.proofs.Common.{◌≡◌, ◌≢◌, ℕ, ◌<◌, List, [], ◌∷◌, ◌++◌, length, get_or, slice_index, bit_and, ap, sym, ◌∙◌, arith}
+use Rattle.std.proofs.Common.{◌≡◌, ℕ, ◌<◌, List, [], ◌∷◌, ◌++◌, length, get_or, bit_and, ap, sym, ◌∙◌, arith}
 use Rattle.attr_ids.specs.declared.ids.PosId.{PosId}
 use Rattle.dep_graph.specs.Graph.{row_at}
 use Rattle.fix_core.proofs.Gathered.{reader_kept, reader_added}

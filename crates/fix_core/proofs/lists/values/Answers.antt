@@ -1,4 +1,4 @@
-use Rattle.std.proofs.Common.{◌≡◌, [], ◌∷◌, ◌++◌, ap, sym, ◌∙◌}
+use Rattle.std.proofs.Common.{[], ◌∷◌, ◌++◌, ap, sym, ◌∙◌}
 use Rattle.fix_core.proofs.Gathered.{values_more, all_more, not_all}
 use Rattle.fix_core.proofs.lists.values.Goals as goal
 

@@ -1,6 +1,6 @@
-use Rattle.std.proofs.Common.{◌≡◌, ℕ, ◌<◌, ◌≤◌, true, false, length, ap, sym, ◌∙◌, arith}
+use Rattle.std.proofs.Common.{length, ap, sym, ◌∙◌, arith}
 use Rattle.std.proofs.lemmas.Option.{MatchOption-at_some}
-use Rattle.fix_core.specs.Machine.{values_of, has_all}
+use Rattle.fix_core.specs.Machine.{values_of}
 use Rattle.fix_core.proofs.Cuts.{values_long}
 use Rattle.fix_core.proofs.Doing.{open_placed}
 use Rattle.fix_core.proofs.running.cut.Goals as goal

@@ -1,10 +1,9 @@
-use Rattle.std.proofs.Common.{◌≡◌, ℕ, ◌<◌, ◌≤◌, List, length, get_or, slice_index_or, All, ap, sym, ◌∙◌, subst, arith}
+use Rattle.std.proofs.Common.{◌≡◌, ℕ, ◌<◌, List, length, get_or, All, ap, sym, ◌∙◌, subst, arith}
 use Rattle.std.proofs.lemmas.List.Elements.{All-get_or}
 use Rattle.attr_ids.specs.declared.ids.PosId.{PosId}
 use Rattle.rule_terms.specs.System.{System, IsSystem, inputs_of}
 use Rattle.dep_graph.proofs.Naming.{inputs_within}
-use Rattle.fix_core.specs.declared.state.CoreMode.TheVariants.{Open}
-use Rattle.fix_core.specs.Machine.{seat_at, word_at, after_look}
+use Rattle.fix_core.specs.Machine.{word_at, after_look}
 use Rattle.fix_core.proofs.Doing.{open_placed, look_done, look_past}
 use Rattle.fix_core.proofs.running.look.Goals as goal
 
