@@ -1,0 +1,15 @@
+pub mod Words
+pub mod Written
+pub mod Owing
+pub mod Kept
+pub mod Cuts
+pub mod Resting
+pub mod Cutting
+pub mod Opening
+pub mod Steps
+pub mod Ones
+pub mod Paying
+pub mod Counting
+pub mod Joining
+pub mod Gathered
+pub mod Doing

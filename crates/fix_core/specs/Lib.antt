@@ -1,0 +1,4 @@
+pub mod Machine
+pub mod Invariant
+pub mod Counts
+pub mod Runs
