@@ -41,6 +41,7 @@ exact_same m f = ap has_blocks (entry_of_func 0 m.funcs f) ∙ by (slice_get m.f
     one : (i : ℕ) (body : Option Block) → not (block_count_of body == 0) ≡ is_some body
     one i None = refl
     one i (Some b) = refl
+
     by : (found : Option Func) → has_blocks (option_map (entry_at (block_at 0 m.funcs f)) found) ≡ has_body found
     by None = refl
     by (Some g) = one 0 g.body
@@ -110,13 +111,13 @@ module _ (m : Module) (F : Fact → Bool) where
 module _ (m : Module) (held : ℕ → Bool) (is : SupportsItself m held) where
   kept_there : (f : ℕ) (at : ℕ) (seg : Seg) (t : There m at seg) → t.place.f ≡ f → held f ≡ true → KeepsNounwind (resolved m) (facts_of held) t.does
   kept_there f at seg t e h = elim t.kind [
-      | inl call ↦
+    | inl call ↦
         let g_at : slice_get m.funcs f ≡ Some t.place.g = subst (λ n. slice_get m.funcs n ≡ Some t.place.g) e t.place.is in
         let all = subst (λ v. All (λ c. keeps m held c ≡ true) (block_calls v)) t.place.body ((is f h).1 t.place.g g_at) in
         let kept : keeps m held call.0 ≡ true = all_at (λ c. keeps m held c ≡ true) t.place.b.calls t.place.j call.0 call.1 all in
         subst (KeepsNounwind (resolved m) (facts_of held)) (sym call.2) (keeps_same m (facts_of held) call.0 ∙ kept)
-      | inr ret ↦ subst (KeepsNounwind (resolved m) (facts_of held)) (sym ret.1) tt
-    ]
+    | inr ret ↦ subst (KeepsNounwind (resolved m) (facts_of held)) (sym ret.1) tt
+  ]
 
   instr_kept : (f : ℕ) (s : Spot) (instr : Instr) → IsIn (resolved m) f s → instr_at (resolved m) s ≡ Some instr → held f ≡ true →
       KeepsNounwind (resolved m) (facts_of held) instr.op
@@ -131,13 +132,14 @@ module _ (m : Module) (held : ℕ → Bool) (is : SupportsItself m held) where
 
   held_then : (f bit : ℕ) → (if bit == NOUNWIND then held f else false) ≡ true → (bit ≡ NOUNWIND) × (held f ≡ true)
   held_then f bit e = elim (eqb_tells bit NOUNWIND) [
-      | inl (t, same) ↦ (same, yes_held (bit == NOUNWIND) t e)
-      | inr (t, other) ↦ absurd (none_held (bit == NOUNWIND) t e)
-    ]
+    | inl (t, same) ↦ (same, yes_held (bit == NOUNWIND) t e)
+    | inr (t, other) ↦ absurd (none_held (bit == NOUNWIND) t e)
+  ]
     where
       yes_held : (b : Bool) → b ≡ true → (if b then held f else false) ≡ true → held f ≡ true
       yes_held true t e = e
       yes_held false t e = absurd (cc)
+
       none_held : (b : Bool) → b ≡ false → (if b then held f else false) ≡ true → ⊥
       none_held true t e = cc
       none_held false t e = cc
