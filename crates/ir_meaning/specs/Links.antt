@@ -1,5 +1,5 @@
 -- How the frames of a stack are linked to each other.
-use Rattle.std.specs.Prelude.{◌≡◌, ℕ, true, if◌then◌else◌, List, [], ◌∷◌, Option, None, Some}
+use Rattle.std.specs.Prelude.{◌≡◌, ◌<◌, ℕ, true, if◌then◌else◌, List, [], ◌∷◌, Option, None, Some}
 use Rattle.ir_module.specs.declared.op.Op.{Op}
 use Rattle.ir_module.specs.declared.op.Op.TheVariants as op
 use Rattle.ir_module.specs.declared.op.Instr.{Instr}
@@ -48,3 +48,8 @@ AreLinked m top (under ∷ below) = IsPlaced m top × IsMadeBy top under × AreL
 abbrev pub IsLinked : Module → List Frame → Type 0
 IsLinked m [] = ⊥
 IsLinked m (top ∷ below) = AreLinked m top below
+
+-- each frame's call has a number below the one that is given, and below those of the calls above it
+abbrev pub AreNumbered : ℕ → List Frame → Type 0
+AreNumbered next [] = Unit {0}
+AreNumbered next (frame ∷ below) = ((active frame).call.number < next) × AreNumbered (active frame).call.number below

@@ -9,7 +9,7 @@ mod laws;
 mod samples;
 
 pub use choice::{Act, Choice};
-pub use laws::{calls_run_their_callees, frames_are_linked};
+pub use laws::{calls_run_their_callees, frames_are_linked, numbers_are_never_used_again};
 pub use samples::{
     a_broken_promise_is_dishonest, a_run_can_open, an_honest_run_can_unwind,
     an_unwind_goes_through_two_bodies, calls_return_one_after_another, the_outside_can_call_back,
