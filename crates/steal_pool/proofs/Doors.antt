@@ -1,7 +1,7 @@
 -- One door of a robber, and one pool of many.
 use Rattle.std.proofs.Common.{◌≡◌, ℕ, ◌+◌, ◌<◌, All, List, [], ◌∷◌, ◌++◌, length, map, set, take, get_or, sym, ap, ◌∙◌, subst, add-one}
 use Rattle.std.proofs.Math.Seq.{map-set_same, take-suc}
-use Rattle.std.proofs.lemmas.List.{map-set, map-append, get_or-map, length-map}
+use Rattle.std.proofs.lemmas.List.{map-set, map-append, get_or-map, length-map, length-set}
 use Rattle.std.proofs.lemmas.List.Elements.{All-nil, All-cons, All-append, All-set, All-get_or}
 use Rattle.std.specs.Global.{Global}
 use Rattle.atomic_blocks.specs.Lent.{RowsId}
@@ -9,8 +9,9 @@ use Rattle.steal_pool.specs.declared.hints.Log.{Log}
 use Rattle.steal_pool.specs.declared.pool.OwnPool.{OwnPool}
 use Rattle.steal_pool.specs.declared.robber.Door.{Door}
 use Rattle.steal_pool.specs.declared.robber.Robbed.{Robbed}
-use Rattle.steal_pool.specs.Hints.{fresh}
-use Rattle.steal_pool.specs.Pools.{own_log, own_deque, door_log, door_deque, Steals, Robs, IsFreshPool}
+use Rattle.steal_pool.specs.declared.robber.Robbed.TheVariants.{Got, Empty, Again}
+use Rattle.steal_pool.specs.Hints.{fresh, IsBelow}
+use Rattle.steal_pool.specs.Pools.{own_log, own_deque, door_log, door_deque, Steals, Robs, IfGot, IsFreshPool}
 
 -- a step at one door
 pub robs_one : (doors : List Door) (i : ℕ) (old new : Door) (robbed : Robbed) → old ≡ get_or doors i old → i < length (map door_log doors) → Steals (door_log old) robbed (door_log new)
@@ -22,6 +23,25 @@ robs_one doors i old new robbed is inside h =
 
 pub deques_kept : (doors : List Door) (i : ℕ) (old new : Door) → old ≡ get_or doors i old → door_deque new ≡ door_deque old → map door_deque (set doors i new) ≡ map door_deque doors
 deques_kept doors i old new is same = map-set_same door_deque doors i new old (same ∙ ap door_deque is)
+
+-- what every step of a robber leaves as it was
+
+count_kept : (v w : Log) (robbed : Robbed) → Steals v robbed w → w.count ≡ v.count
+count_kept v w (Got p) h = ap (λ (u : Log). u.count) h.1
+count_kept v w Empty h = ap (λ (u : Log). u.count) h
+count_kept v w Again h = ap (λ (u : Log). u.count) h
+
+pub robs_below : (old : List Log) (from : ℕ) (robbed : Robbed) (new : List Log) (n : ℕ) → from < length old → All (λ v. v.count ≡ n) old → Robs old from robbed new → IfGot robbed (IsBelow n)
+robs_below old from (Got p) new n inside all h = subst (λ k. p.0 < k) (All-get_or (λ v. v.count ≡ n) old from (fresh 0) inside all) h.2.0
+robs_below old from Empty new n inside all h = tt
+robs_below old from Again new n inside all h = tt
+
+pub robs_fit : (old : List Log) (from : ℕ) (robbed : Robbed) (new : List Log) (workers n : ℕ) → from < length old → (length old ≡ workers) × All (λ v. v.count ≡ n) old → Robs old from robbed new → (length new ≡ workers) × All (λ v. v.count ≡ n) new
+robs_fit old from robbed new workers n inside was h =
+    let w : Log = h.0 in
+    let step : Steals (get_or old from (fresh 0)) robbed w = h.2 in
+    let mine : w.count ≡ n = count_kept (get_or old from (fresh 0)) w robbed step ∙ All-get_or (λ v. v.count ≡ n) old from (fresh 0) inside was.1 in
+    (ap length h.1 ∙ length-set old from w ∙ was.0, subst (All (λ v. v.count ≡ n)) (sym h.1) (All-set (λ v. v.count ≡ n) old from w mine was.1))
 
 -- a pool that was given one more door
 pub pools_kept : (pools : List OwnPool) (i count : ℕ) (old new : OwnPool) → old ≡ get_or pools i old → own_log new ≡ own_log old → own_deque new ≡ own_deque old → i < length pools → All (IsFreshPool count) pools

@@ -1,9 +1,10 @@
 -- Each move keeps the rule of a deque of hints.
-use Rattle.std.proofs.Common.{◌≡◌, ℕ, zero, suc, ◌<◌, All, List, [], ◌∷◌, ◌++◌, length, set, refl, sym, ap, ◌∙◌, subst, ⊎_elim, inl, inr, arith}
+use Rattle.std.proofs.Common.{◌≡◌, ℕ, zero, suc, ◌+◌, ◌<◌, ◌≤◌, All, List, [], ◌∷◌, ◌++◌, length, set, refl, sym, ap, ◌∙◌, subst, ⊎_elim, inl, inr, Result, Ok, Err, IfErr, arith}
 use mathlib.Core.Option.{some, some-ne-none}
 use lib.ListN.{get_elem?}
 use lib.Seq.{take-append_seam, drop-append_seam}
 use Rattle.std.proofs.lemmas.List.Elements.{All-nil, All-cons, All-append, All-take, All-drop}
+use Rattle.std.specs.Prelude.{MatchResult}
 use Rattle.crossbeam_deque.specs.Tasks as tasks
 use Rattle.crossbeam_deque.proofs.Lists.{at_set, at_snoc}
 use Rattle.attr_ids.specs.declared.ids.PosId.{PosId}
@@ -106,3 +107,9 @@ pub frees_one : (port : ℕ) (v : Log) → v.stage ≡ Bounding → tasks.Finds 
 frees_one port v is views h at =
     ⊎_elim (λ new. made_bounding (stage_of _ v views port new.1 at ∙ is))
     (λ other. ⊎_elim (λ bounding. absurd (cc bounding.1)) (λ done. bounding_used (sym is ∙ (done.1 port v at).1)) other) h
+
+-- a push that found room is not refused
+pub kept : {A : Type 0} (r : Result A PosId) (P : Type 0) (F : PosId → Type 0) (capacity index given : ℕ) → MatchResult r (λ _. P) F → IfErr r (λ _. capacity ≤ index)
+    → 64 ≤ capacity → index ≤ given + 1 → given + 1 < 64 → P
+kept (Ok u) P F capacity index given h full slots room few = h
+kept (Err p) P F capacity index given h full slots room few = absurd (omega (arith, full))

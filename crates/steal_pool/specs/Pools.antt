@@ -1,11 +1,12 @@
 -- What contracts say of pools and robbers.
-use Rattle.std.specs.Prelude.{◌≡◌, ℕ, ◌<◌, List, [], ◌∷◌, map, length, slice_set, slice_index_or, All}
+use Rattle.std.specs.Prelude.{◌≡◌, ℕ, ◌+◌, ◌<◌, List, [], ◌∷◌, map, length, slice_set, slice_index_or, All, ⊤}
 use Rattle.std.specs.Global.{Global}
 use Rattle.atomic_blocks.specs.Lent.{RowsId}
-use Rattle.crossbeam_deque.specs.Handles.{view, worker_deque, stealer_deque, worker_view, worker_index, worker_capacity}
+use Rattle.crossbeam_deque.specs.Handles.{view, worker_deque, stealer_deque, worker_view}
 use Rattle.attr_ids.specs.declared.ids.PosId.{PosId}
 use Rattle.steal_pool.specs.declared.hints.Log.{Log}
 use Rattle.steal_pool.specs.declared.pool.OwnPool.{OwnPool}
+use Rattle.steal_pool.specs.declared.pool.TheConstants.{SLOTS}
 use Rattle.steal_pool.specs.declared.robber.Door.{Door}
 use Rattle.steal_pool.specs.declared.robber.Robber.{Robber}
 use Rattle.steal_pool.specs.declared.robber.Robbed.{Robbed}
@@ -20,9 +21,9 @@ own_log pool = worker_view pool.owner
 abbrev pub own_deque : OwnPool → RowsId × Global
 own_deque pool = worker_deque pool.owner
 
--- a slot is free for the next position
-abbrev pub HasRoom : OwnPool → Type 0
-HasRoom pool = worker_index pool.owner < worker_capacity pool.owner
+-- fewer positions were given than the pool began with slots for, the bound's among them
+abbrev pub HasRoom : Log → Type 0
+HasRoom v = length v.given + 1 < SLOTS
 
 -- the position went into the pool as it is
 abbrev pub Keeps : Log → PosId → Log → Type 0
@@ -57,6 +58,16 @@ robber_deques robber = map door_deque robber.doors.items
 -- one step at the pool of this number, and none at another
 abbrev pub Robs : List Log → ℕ → Robbed → List Log → Type 0
 Robs old from robbed new = (w : Log) × (new ≡ slice_set old from w) × Steals (slice_index_or old from (fresh 0)) robbed w
+
+-- a robber of this many pools, whose positions are below this bound
+abbrev pub IsRobberOf : ℕ → ℕ → Robber → Type 0
+IsRobberOf workers count robber = (length (robber_logs robber) ≡ workers) × All (λ v. v.count ≡ count) (robber_logs robber)
+
+-- where a robber took a position, this holds of it
+abbrev pub IfGot : Robbed → (PosId → Type 0) → Type 0
+IfGot (Got p) P = P p
+IfGot Empty P = ⊤
+IfGot Again P = ⊤
 
 -- a robber that has taken nothing yet out of these deques
 pub record RobsAll (deques : List (RowsId × Global)) (count : ℕ) (robber : Robber) : Type 0 where

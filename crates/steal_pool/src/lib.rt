@@ -11,7 +11,7 @@ mod pool;
 mod robber;
 
 pub use opening::pools;
-pub use pool::{OwnPool, OwnPools};
+pub use pool::{OwnPool, OwnPools, SLOTS};
 pub use robber::{Robbed, Robber, Robbers};
 
 #[cfg(test)]

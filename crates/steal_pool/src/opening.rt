@@ -1,6 +1,6 @@
 //! The pools and the robbers of a run.
 ghost use Rattle.std.specs.Prelude.{◌≡◌, ◌<◌, ◌≤◌, IfOk, map, length, All};
-ghost use Rattle.steal_pool.specs.Pools.{own_deque, IsFreshPool, RobsAll, AreFresh};
+ghost use Rattle.steal_pool.specs.Pools.{own_deque, IsFreshPool, IsRobberOf, RobsAll, AreFresh};
 
 use crate::pool::{OwnPool, OwnPools};
 use crate::robber::{Robber, Robbers};
@@ -50,7 +50,8 @@ fn robbers_of(
 /// Empty pools of positions below `count`, and their robbers.
 pub fn pools(alloc: Global, workers: u8, count: u32) -> Result<(OwnPools, Robbers), NoMemory>
     requires { (0 < workers) × (workers ≤ 16) }
-    ensures { IfOk result (λ made. AreFresh workers count made.0 made.1) }
+    ensures fresh { IfOk result (λ made. AreFresh workers count made.0 made.1) }
+    ensures robbers { IfOk result (λ made. All (IsRobberOf workers count) made.1) }
 {
     let mut pools = empty_pools(alloc, workers, count)?;
     let robbers = robbers_of(alloc, &mut pools, workers, count)?;

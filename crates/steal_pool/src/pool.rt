@@ -1,6 +1,6 @@
 //! A worker's own pool.
-ghost use Rattle.std.specs.Prelude.{◌≡◌};
-ghost use Rattle.crossbeam_deque.specs.Handles.{worker_view, worker_flavor};
+ghost use Rattle.std.specs.Prelude.{◌≡◌, ◌+◌, ◌≤◌, length};
+ghost use Rattle.crossbeam_deque.specs.Handles.{worker_view, worker_flavor, worker_capacity, worker_index};
 ghost use Rattle.steal_pool.specs.declared.hints.Stage.TheVariants.{Used};
 
 use crate::hints::{Bound, Free, Given, Owner, Shared, Taken};
@@ -9,7 +9,7 @@ use attr_ids::{NoMemory, PosId, Sequence};
 use std::alloc::Global;
 
 /// The slots with which a pool begins.
-const SLOTS: usize = 64;
+pub const SLOTS: usize = 64;
 
 /// A worker's own pool of hints. It grows as it needs, and hints come out in the order in which they
 /// were given.
@@ -18,6 +18,8 @@ pub struct OwnPool {
     owner: Owner,
     ghost used: { (worker_view owner).stage ≡ Used },
     ghost fifo: { worker_flavor owner ≡ 0 },
+    ghost slots: { 64 ≤ worker_capacity owner },
+    ghost room: { worker_index owner ≤ length (worker_view owner).given + 1 },
 }
 
 /// One pool for each worker.
@@ -52,10 +54,11 @@ impl OwnPool {
         Ok(Door { thief, pass })
     }
 
-    /// Puts a position into the pool. Where the pool cannot grow, the hint is dropped.
+    /// Puts a position into the pool. Where the pool has used its slots and cannot grow, the hint is
+    /// dropped.
     pub fn give(&mut self, p: PosId)
         requires { p.0 < (own_log self.old).count }
-        ensures kept { HasRoom self.old → Keeps (own_log self.old) p (own_log self.new) }
+        ensures kept { HasRoom (own_log self.old) → Keeps (own_log self.old) p (own_log self.new) }
         ensures either { Keeps (own_log self.old) p (own_log self.new) ⊎ (own_log self.new ≡ own_log self.old) }
         ensures same { own_deque self.new ≡ own_deque self.old }
     {

@@ -53,14 +53,19 @@ impl Door {
 }
 
 impl Robber {
-    ghost use Rattle.std.specs.Prelude.{◌≡◌, ◌<◌, length};
-    ghost use Rattle.steal_pool.specs.Pools.{Robs, robber_logs, robber_deques};
+    ghost use Rattle.std.specs.Prelude.{◌≡◌, ◌<◌, ℕ, length};
+    ghost use Rattle.steal_pool.specs.Hints.{IsBelow};
+    ghost use Rattle.steal_pool.specs.Pools.{Robs, IsRobberOf, IfGot, robber_logs, robber_deques};
 
     /// Tries once to take the first position of the pool of the worker `from`.
     pub fn rob(&mut self, from: u8) -> Robbed
         requires { from < length (robber_logs self.old) }
         ensures robs { Robs (robber_logs self.old) from result (robber_logs self.new) }
         ensures same { robber_deques self.new ≡ robber_deques self.old }
+
+        // In the words of a caller that knows the number of workers and of positions.
+        ensures below { (workers count : ℕ) → IsRobberOf workers count self.old → IfGot result (IsBelow count) }
+        ensures fits { (workers count : ℕ) → IsRobberOf workers count self.old → IsRobberOf workers count self.new }
     {
         self.doors[from as usize].steal()
     }
