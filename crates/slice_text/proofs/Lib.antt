@@ -7,3 +7,4 @@ pub mod Calls
 pub mod Written
 pub mod Same
 pub mod Places
+pub mod Counting

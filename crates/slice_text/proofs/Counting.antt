@@ -1,0 +1,41 @@
+-- A text is at least as long as the tokens that it is written with are many, so it has few headers and calls.
+use Rattle.std.proofs.Common.{◌≡◌, ℕ, suc, ◌+◌, ◌*◌, ◌≤◌, Bool, true, false, List, [], ◌∷◌, ◌++◌, length, map, Option, None, Some, ap, sym, ◌∙◌, arith, length-append}
+use Rattle.std.specs.List.{flat_map}
+use Rattle.std.proofs.lemmas.List.{length-map}
+use Rattle.slice_text.specs.declared.token.Symbol.TheVariants as symbol
+use Rattle.slice_text.specs.declared.token.Token.{Token}
+use Rattle.slice_text.specs.declared.entity.Mention.{Mention}
+use Rattle.slice_text.specs.declared.entity.Body.{Body}
+use Rattle.slice_text.specs.declared.entity.Entity.{Entity}
+use Rattle.slice_text.specs.Tokens.{Reaches, past_gap}
+use Rattle.slice_text.specs.Entities.{Leaf, Mark, leaf_of, word_leaves, mention_leaves, call_leaves, block_leaves, linkage_leaves, written, entity_leaves, Reads}
+use Rattle.slice_text.specs.Places.{calls_of, mentions}
+
+gap_moves : (b : List ℕ) (i : ℕ) → i ≤ past_gap b i
+unfolding past_gap
+gap_moves b i = omega arith
+
+-- each token takes a byte
+tokens_fit : (b : List ℕ) (at to : ℕ) (ts : List Token) → Reaches b at ts to → at + length ts ≤ to
+tokens_fit b at to [] r = omega (arith, gap_moves b at, r)
+tokens_fit b at to (t ∷ ts) r = omega (arith, gap_moves b at, r.0.token.moves, tokens_fit b t.span.to to ts r.1)
+
+-- a header or a call has four leaves or more
+calls_long : (cs : List Mention) → 4 * length cs ≤ length (flat_map call_leaves cs)
+calls_long [] = omega arith
+calls_long (c ∷ cs) = omega (arith, calls_long cs, length-append (word_leaves c.nounwind) (flat_map call_leaves cs))
+
+written_long : (h : Mention) (b : Option Body) → 4 * length (h ∷ calls_of b) ≤ length (written h b)
+written_long h None = omega arith
+written_long h (Some b) =
+    omega (arith, calls_long b.calls, length-append (linkage_leaves b.internal) (mention_leaves h ++ block_leaves b.calls),
+    length-append (word_leaves h.nounwind) (block_leaves b.calls), length-append (flat_map call_leaves b.calls) (Mark symbol.Ret ∷ Mark symbol.Void ∷ Mark symbol.RightBrace ∷ []))
+
+entities_long : (es : List Entity) → 4 * length (flat_map mentions es) ≤ length (flat_map entity_leaves es)
+entities_long [] = omega arith
+entities_long (e ∷ es) =
+    omega (arith, written_long e.header e.body, entities_long es, length-append (entity_leaves e) (flat_map entity_leaves es), length-append (mentions e) (flat_map mentions es))
+
+pub few_mentions : (b : List ℕ) (es : List Entity) → Reads b es → 4 * length (flat_map mentions es) ≤ length b
+few_mentions b es r =
+    omega (arith, tokens_fit b 0 (length b) r.0 r.1, entities_long es, ap length r.2, length-map r.0 leaf_of)
