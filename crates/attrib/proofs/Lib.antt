@@ -1,7 +1,7 @@
 pub mod Built
 pub mod Composed
-pub mod Swept
 pub mod Terms
 pub mod Once
 pub mod Facts
 pub mod Same
+pub mod Edges

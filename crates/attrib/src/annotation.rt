@@ -85,7 +85,7 @@ pub fn annotate<R: Threads + Sync, G: Gate + Sync>(
         Err(TextRefusal::Outside) => return Err(Refusal::Slice),
         Err(TextRefusal::NoMemory) => return Err(Refusal::NoMemory),
     };
-    let words = nounwind(alloc, &module)?;
+    let words = nounwind(rt, alloc, &module, workers, gate)?;
     let insertions = insertions(alloc, &module, &words)?;
     let bytes = weave(alloc, text, &insertions)?;
     Ok(Annotated { bytes })

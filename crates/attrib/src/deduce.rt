@@ -1,21 +1,29 @@
-//! The deduction: the greatest self-supporting set of facts, from all facts down, by sweeps over the
-//! positions until a sweep changes nothing.
+//! The deduction: the greatest self-supporting set of facts, from all facts down, by workers that take away
+//! what their rules do not leave.
 
 ghost use Rattle.std.specs.Prelude.{◌≡◌, ◌<◌, ◌≤◌, ◌^◌, ℕ, IfOk, OnOk, All, true, false, length, map, sum, slice_index};
 ghost use Rattle.rule_terms.specs.System.{value_in, IsSystem};
 ghost use Rattle.rule_terms.specs.Greatest as rule;
 ghost use Rattle.lattice_words.specs.Words.{IsWithin};
-ghost use Rattle.slice_module.specs.Module.{calls_of};
+ghost use Rattle.std.specs.List.{flat_map};
+ghost use Rattle.dep_graph.specs.Graph.{IsGraphOf};
+ghost use Rattle.slice_text.specs.Places.{mentions};
+ghost use Rattle.slice_module.specs.Module.{calls_of, entities_of};
 ghost use Rattle.slice_module.specs.Tables.{resolved};
 ghost use Rattle.slice_facts.specs.Facts.{held_in};
 ghost use Rattle.positions.specs.Facts.{IsGreatest};
 ghost use Rattle.attrib.specs.Deduced as spec;
 
 use attr_ids::{NoMemory, PosId, Sequence, WordList};
+use attr_io::Gate;
+use closing_pass::close;
+use dep_graph::{DepGraph, GraphRefusal, budget, dependents};
 use rule_terms::{NewTerm, System};
 use slice_facts::{is_body, is_promised};
 use slice_module::{Call, Func, Module};
 use std::alloc::Global;
+use std::thread::Threads;
+use workers::run_all;
 
 /// One word for each function: its fact for a body, and none for a declaration.
 fn masks(alloc: Global, m: &Module) -> Result<WordList, NoMemory>
@@ -79,68 +87,56 @@ fn system(alloc: Global, m: &Module) -> Result<System, NoMemory>
     Ok(system)
 }
 
-/// Takes from the word of a position what its terms do not leave, and says whether that was something.
-fn cut(system: &System, words: &mut WordList, p: PosId) -> bool
-    requires place { p.0 < length system.now.masks }
-    requires long { length words.old ≡ length system.now.masks }
-    ensures cut { rule.IsCut system.now words.old words.new }
-    ensures fits { All (λ word. word < 2 ^ 64) words.old → All (λ word. word < 2 ^ 64) words.new }
-    ensures smaller { result ≡ true → sum words.new < sum words.old }
-    ensures same { result ≡ false → words.new ≡ words.old }
-    ensures kept { result ≡ false → IsWithin (slice_index words.old p.0) (value_in system.now p.0 words.old) }
+/// The graph of the system of a module. It has fewer edges than a graph may have, since each is of a call.
+fn graph(alloc: Global, m: &Module, system: &System) -> Result<DepGraph, NoMemory>
+    requires few { length (flat_map mentions (entities_of m.now)) ≤ 32000000 }
+    requires system { system.now ≡ spec.system_of m.now }
+    ensures { IfOk result (λ graph. IsGraphOf system.now graph) }
 {
-    let old = words.as_slice()[p.0 as usize];
-    let new = old & system.eval_in(p, words);
-    words.set(p.0 as usize, new);
-    new != old
-}
-
-/// Cuts each position once, and says whether a word lost something.
-fn sweep(system: &System, words: &mut WordList) -> bool
-    requires { length words.old ≡ length system.now.masks }
-    ensures system { IsSystem system.now }
-    ensures long { length words.new ≡ length system.now.masks }
-    ensures reached { rule.IsReached system.now words.old → rule.IsReached system.now words.new }
-    ensures fits { All (λ word. word < 2 ^ 64) words.old → All (λ word. word < 2 ^ 64) words.new }
-    ensures smaller { result ≡ true → sum words.new < sum words.old }
-    ensures done { result ≡ false → rule.Supports system.now words.new }
-{
-    let mut fell = false;
-    for p in 0..system.count() {
-        if cut(system, words, PosId(p)) {
-            fell = true;
-        }
+    match dependents(alloc, system) {
+        Ok(graph) => Ok(graph),
+        Err(GraphRefusal::NoMemory) => Err(NoMemory),
+        Err(GraphRefusal::TooMany { .. }) => unreachable!(),
     }
-    fell
 }
 
-/// Sweeps until a sweep changes nothing.
-fn settle(system: &System, words: &mut WordList)
-    requires { length words.old ≡ length system.now.masks }
-    ensures system { IsSystem system.now }
-    ensures reached { rule.IsReached system.now words.old → rule.IsReached system.now words.new }
-    ensures fits { All (λ word. word < 2 ^ 64) words.old → All (λ word. word < 2 ^ 64) words.new }
-    ensures supports { rule.Supports system.now words.new }
-{
-    'settling: while sweep(system, words) {}
-}
-
-/// The greatest words of the system of a module.
-fn greatest(alloc: Global, m: &Module, system: &System) -> Result<WordList, NoMemory>
-    requires { system.now ≡ spec.system_of m.now }
+/// The greatest words of the system of a module. Workers take away from all facts what the terms do not
+/// leave, and the closing pass sweeps what they left, if they left anything.
+fn greatest<R: Threads + Sync, G: Gate + Sync>(
+    rt: &R,
+    alloc: Global,
+    m: &Module,
+    system: &System,
+    workers: u8,
+    gate: &G,
+) -> Result<WordList, NoMemory>
+    requires some { 1 ≤ workers }
+    requires most { workers ≤ 16 }
+    requires few { length (flat_map mentions (entities_of m.now)) ≤ 32000000 }
+    requires system { system.now ≡ spec.system_of m.now }
     ensures { IfOk result (rule.IsGreatest system.now) }
 {
-    let mut words = masks(alloc, m)?;
-    settle(system, &mut words);
-    Ok(words)
+    let graph = graph(alloc, m, system)?;
+    let turns = budget(system, &graph).saturating_add(1);
+    let ran = run_all(rt, alloc, system, &graph, workers, turns, gate)?;
+    Ok(close(system, ran.words, &ran.ends))
 }
 
 /// The words that hold the greatest self-supporting set of a module's facts.
-pub(crate) fn nounwind(alloc: Global, m: &Module) -> Result<WordList, NoMemory>
-    requires { length m.now.funcs < 2 ^ 32 }
+pub(crate) fn nounwind<R: Threads + Sync, G: Gate + Sync>(
+    rt: &R,
+    alloc: Global,
+    m: &Module,
+    workers: u8,
+    gate: &G,
+) -> Result<WordList, NoMemory>
+    requires some { 1 ≤ workers }
+    requires most { workers ≤ 16 }
+    requires few { length (flat_map mentions (entities_of m.now)) ≤ 32000000 }
+    requires small { length m.now.funcs < 2 ^ 32 }
     ensures { IfOk result (λ words. IsGreatest (resolved m.now) (spec.facts_of (held_in words))) }
 {
     let system = system(alloc, m)?;
-    let words = greatest(alloc, m, &system)?;
+    let words = greatest(rt, alloc, m, &system, workers, gate)?;
     Ok(words)
 }

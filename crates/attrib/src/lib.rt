@@ -6,6 +6,8 @@
 
 mod annotation;
 mod deduce;
+#[cfg(test)]
+mod meeting;
 mod run;
 #[cfg(test)]
 mod tests;
