@@ -5,3 +5,4 @@ pub mod Once
 pub mod Facts
 pub mod Same
 pub mod Edges
+pub mod Counting

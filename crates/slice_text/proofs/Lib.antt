@@ -7,4 +7,3 @@ pub mod Calls
 pub mod Written
 pub mod Same
 pub mod Places
-pub mod Counting

@@ -1,13 +1,13 @@
 //! The entities of a list of tokens, by one look at each token.
 
-ghost use Rattle.std.specs.Prelude.{◌≡◌, ◌<◌, ◌≤◌, ◌+◌, ◌*◌, length, IfSome, IfNone, IfOk, List, ◌∷◌, drop, true, ℕ, IsTrue, ◌↔◌, ◌≢◌};
+ghost use Rattle.std.specs.Prelude.{◌≡◌, ◌<◌, ◌≤◌, ◌+◌, length, IfSome, IfNone, IfOk, List, ◌∷◌, drop, true, ℕ, IsTrue, ◌↔◌, ◌≢◌};
 ghost use Rattle.attr_ids.specs.declared.insertion.Span.{Span};
 ghost use Rattle.slice_text.specs.declared.token.Symbol.TheVariants as symbol;
 ghost use Rattle.slice_text.specs.declared.entity.Entity.{Entity};
 ghost use Rattle.slice_text.specs.Entities.{Leaf, Mark, Name, Closed, mention_leaves, call_leaves, block_leaves, entity_leaves, Reads};
 ghost use Rattle.slice_text.specs.Fits.{leaves, is_plain, BeginsNot, Takes, TakesNone, TakesCalls, TakesLinkage};
 ghost use Rattle.std.specs.List.{flat_map};
-ghost use Rattle.slice_text.specs.Places.{ClosesRise, NamesWithin, mentions};
+ghost use Rattle.slice_text.specs.Places.{ClosesRise, NamesWithin};
 
 use crate::entity::{Body, Entities, Entity, Mention, Mentions};
 use crate::scan::{TextRefusal, tokens};
@@ -243,9 +243,4 @@ pub fn one_reading()
 pub fn places_of_a_reading()
     ensures closes { (b : List ℕ) (es : List Entity) → Reads b es → ClosesRise (length b) es }
     ensures names { (b : List ℕ) (es : List Entity) → Reads b es → NamesWithin (length b) es }
-{}
-
-/// A text of n bytes has at most n / 4 headers and calls.
-pub fn a_reading_has_few_mentions()
-    ensures { (b : List ℕ) (es : List Entity) → Reads b es → 4 * length (flat_map mentions es) ≤ length b }
 {}
