@@ -12,6 +12,7 @@ use Rattle.slice_module.proofs.Formed.{formed}
 use Rattle.laws_control.proofs.Unwinding.{holds}
 use Rattle.weave.specs.Woven.{Woven}
 use Rattle.attrib.specs.Deduced.{facts_of}
+use Rattle.attrib.proofs.Counting.{few_mentions}
 use Rattle.attrib.proofs.annotation.annotate.Goals as goal
 
 pub returns-in-Err-Outside-clause-slice : goal.returns-in-Err-Outside-clause-slice
@@ -24,8 +25,11 @@ returns-in-Err-Outside-clause-accepted g c = λ is.
     let none : (m : Module) → Accepted c.args.text.now m → ⊥ = c.in-Err-Outside.ensures.outside (ap (λ x. Err x) c.in-Err-Outside.field-0-is) in
     absurd (none is.1.0 is.1.1)
 
-pub nounwind-requires : goal.nounwind-requires
-nounwind-requires g c =
+pub nounwind-requires-clause-few : goal.nounwind-requires-clause-few
+nounwind-requires-clause-few g c = omega (arith, few_mentions c.args.text.now (entities_of c.in-Ok.module) c.in-Ok.ensures.accepted.reads)
+
+pub nounwind-requires-clause-small : goal.nounwind-requires-clause-small
+nounwind-requires-clause-small g c =
     omega (arith, length-map c.in-Ok.module.funcs entity_of, at_most (length c.args.text.now) (entities_of c.in-Ok.module) c.in-Ok.ensures.closes)
 
 pub insertions-requires : goal.insertions-requires
