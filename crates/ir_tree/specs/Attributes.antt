@@ -1,5 +1,5 @@
 -- The productions of attributes, calling conventions, comdats and attachments.
-use Rattle.std.specs.Prelude.{ℕ, List, Bool, not, ◌||◌}
+use Rattle.std.specs.Prelude.{ℕ, List, [], ◌∷◌}
 use Rattle.ir_tree.specs.declared.terminal.Terminal.{Terminal}
 use Rattle.ir_tree.specs.declared.terminal.Terminal.TheVariants as k
 use Rattle.ir_tree.specs.declared.attributes.Inner.{Inner}
@@ -18,18 +18,18 @@ use Rattle.ir_tree.specs.declared.attributes.Cc.{Cc}
 use Rattle.ir_tree.specs.declared.attributes.Cc.TheVariants as cc_of
 use Rattle.ir_tree.specs.declared.attributes.Comdat.{Comdat}
 use Rattle.ir_tree.specs.declared.attributes.Attach.{Attach}
-use Rattle.ir_tree.specs.Steps.{Step, ◌⨾◌, the, leaf, one_of, is, either, many, optional}
+use Rattle.ir_tree.specs.Steps.{Step, ◌⨾◌, the, leaf, one_of, none_of, many, optional}
 
 -- a word that is not reserved; the flags are none
-abbrev pub is_aword : Terminal → Bool
-is_aword t = is k.Word t || (either k.Nuw k.Iflag t || either k.Gepflag k.InRange t)
+abbrev pub awords : List Terminal
+awords = k.Word ∷ k.Nuw ∷ k.Iflag ∷ k.Gepflag ∷ k.InRange ∷ []
 
 abbrev pub aword : List Terminal → ℕ → Step
-aword toks = one_of toks is_aword
+aword toks = one_of toks awords
 
 -- one layer of what stands inside an attribute's parentheses
 abbrev pub inner_layer : List Terminal → Inner-F Step → Step
-inner_layer toks (Token at) = one_of toks (λ t. not (either k.LeftParen k.RightParen t)) at
+inner_layer toks (Token at) = none_of toks (k.LeftParen ∷ k.RightParen ∷ []) at
 inner_layer toks (Bracket start inside) = leaf toks k.LeftParen start ⨾ many (λ part. part) inside ⨾ the toks k.RightParen
 
 abbrev pub inner : List Terminal → Inner → Step

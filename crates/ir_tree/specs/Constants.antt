@@ -1,5 +1,5 @@
 -- The productions of constants.
-use Rattle.std.specs.Prelude.{ℕ, List}
+use Rattle.std.specs.Prelude.{ℕ, List, [], ◌∷◌}
 use Rattle.ir_tree.specs.declared.terminal.Terminal.{Terminal}
 use Rattle.ir_tree.specs.declared.terminal.Terminal.TheVariants as k
 use Rattle.ir_tree.specs.declared.constants.Gepflag.{Gepflag}
@@ -9,14 +9,14 @@ use Rattle.ir_tree.specs.declared.constants.Tconst.{Tconst}
 use Rattle.ir_tree.specs.declared.constants.Const.TheOpen.{Const-F, Tconst-F}
 use Rattle.ir_tree.specs.declared.constants.Const.TheOpen.Const-F.{Int, True, False, Null, Undef, Poison, Zero, Global, CStr, Array, Struct, Packed, GetElementPtr, Cast, Binop}
 use Rattle.ir_tree.specs.declared.constants.Const.TheFolds.{fold-Const}
-use Rattle.ir_tree.specs.Steps.{Step, ◌⨾◌, the, leaf, one_of, either, many, some, next, separated}
+use Rattle.ir_tree.specs.Steps.{Step, ◌⨾◌, the, leaf, one_of, many, some, next, separated}
 use Rattle.ir_tree.specs.Types.{ty}
 
 abbrev pub iflag : List Terminal → ℕ → Step
-iflag toks = one_of toks (either k.Nuw k.Iflag)
+iflag toks = one_of toks (k.Nuw ∷ k.Iflag ∷ [])
 
 abbrev pub gepflag : List Terminal → Gepflag → Step
-gepflag toks (Word at) = one_of toks (either k.Nuw k.Gepflag) at
+gepflag toks (Word at) = one_of toks (k.Nuw ∷ k.Gepflag ∷ []) at
 gepflag toks (InRange word from to) = leaf toks k.InRange word ⨾ the toks k.LeftParen ⨾ leaf toks k.Int from ⨾ the toks k.Comma ⨾ leaf toks k.Int to ⨾ the toks k.RightParen
 
 -- one layer of a constant, once each part is a step

@@ -1,5 +1,5 @@
 -- The productions of a module.
-use Rattle.std.specs.Prelude.{ℕ, suc, List, Bool, ◌&&◌, ◌||◌}
+use Rattle.std.specs.Prelude.{ℕ, suc, List, [], ◌∷◌, Bool, ◌&&◌}
 use Rattle.ir_tree.specs.declared.terminal.Terminal.{Terminal}
 use Rattle.ir_tree.specs.declared.terminal.Terminal.TheVariants as k
 use Rattle.ir_tree.specs.declared.constants.Const.{Const}
@@ -12,7 +12,7 @@ use Rattle.ir_tree.specs.declared.entities.Declare.{Declare}
 use Rattle.ir_tree.specs.declared.entities.Define.{Define}
 use Rattle.ir_tree.specs.declared.entities.Entity.{Entity}
 use Rattle.ir_tree.specs.declared.entities.Entity.TheVariants as entity_of
-use Rattle.ir_tree.specs.Steps.{Step, ◌⨾◌, the, leaf, one_of, is, either, many, optional, next, sees, where_not}
+use Rattle.ir_tree.specs.Steps.{Step, ◌⨾◌, the, leaf, one_of, many, optional, next, stands, where_not}
 use Rattle.ir_tree.specs.Types.{ty}
 use Rattle.ir_tree.specs.Constants.{const}
 use Rattle.ir_tree.specs.Attributes.{aword, gattr, comdat, attach}
@@ -21,7 +21,7 @@ use Rattle.ir_tree.specs.Headers.{header}
 
 -- a word before `global` or `constant`
 abbrev pub gword : List Terminal → ℕ → Step
-gword toks = one_of toks (λ t. is k.Hword t || either k.Unnamed k.ExternallyInitialized t)
+gword toks = one_of toks (k.Hword ∷ k.Unnamed ∷ k.ExternallyInitialized ∷ [])
 
 abbrev pub gtail : List Terminal → Gtail → Step
 gtail toks (gtail_of.Section at name) = leaf toks k.Section at ⨾ leaf toks k.Str name
@@ -34,7 +34,7 @@ gtail toks (gtail_of.Word at) = aword toks at
 
 -- a Global stands here, and `=` directly behind it
 unfoldable pub names_next : List Terminal → ℕ → Bool
-names_next toks a = sees toks (is k.Global) a && sees toks (is k.Equals) (suc a)
+names_next toks a = stands toks k.Global a && stands toks k.Equals (suc a)
 
 -- an initial value; it is not the name of the next entity
 abbrev pub initial : List Terminal → Const → Step

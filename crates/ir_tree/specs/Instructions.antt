@@ -1,5 +1,5 @@
 -- The productions of instructions and terminators.
-use Rattle.std.specs.Prelude.{ℕ, List, Option}
+use Rattle.std.specs.Prelude.{ℕ, List, [], ◌∷◌, Option}
 use Rattle.ir_tree.specs.declared.terminal.Terminal.{Terminal}
 use Rattle.ir_tree.specs.declared.terminal.Terminal.TheVariants as k
 use Rattle.ir_tree.specs.declared.instructions.Arm.{Arm}
@@ -12,17 +12,17 @@ use Rattle.ir_tree.specs.declared.instructions.Invoke.{Invoke}
 use Rattle.ir_tree.specs.declared.instructions.Case.{Case}
 use Rattle.ir_tree.specs.declared.instructions.Term.{Term}
 use Rattle.ir_tree.specs.declared.instructions.Term.TheVariants as term_of
-use Rattle.ir_tree.specs.Steps.{Step, ◌⨾◌, the, leaf, one_of, is, either, many, some, optional, next, listed, separated, sees, where_not}
+use Rattle.ir_tree.specs.Steps.{Step, ◌⨾◌, the, leaf, one_of, many, some, optional, next, listed, separated, stands, where_not}
 use Rattle.ir_tree.specs.Types.{ty, ftype}
 use Rattle.ir_tree.specs.Constants.{iflag, gepflag, tconst}
 use Rattle.ir_tree.specs.Values.{value, tvalue}
 use Rattle.ir_tree.specs.Attributes.{rattr, word, cc}
 
 abbrev pub binop : List Terminal → ℕ → Step
-binop toks = one_of toks (either k.ConstBinop k.Binop)
+binop toks = one_of toks (k.ConstBinop ∷ k.Binop ∷ [])
 
 abbrev pub castop : List Terminal → ℕ → Step
-castop toks = one_of toks (either k.ConstCast k.Cast)
+castop toks = one_of toks (k.ConstCast ∷ k.Cast ∷ [])
 
 abbrev pub volatile : List Terminal → Option ℕ → Step
 volatile toks = optional (leaf toks k.Volatile)
@@ -71,7 +71,7 @@ case toks x = ty toks x.ty ⨾ leaf toks k.Int x.value ⨾ the toks k.Comma ⨾ 
 -- a terminator; what `ret` gives back has a type other than void
 abbrev pub term : List Terminal → Term → Step
 term toks (term_of.RetVoid op) = leaf toks k.Ret op ⨾ the toks k.Void
-term toks (term_of.Ret op of) = leaf toks k.Ret op ⨾ where_not (sees toks (is k.Void)) (tvalue toks of)
+term toks (term_of.Ret op of) = leaf toks k.Ret op ⨾ where_not (stands toks k.Void) (tvalue toks of)
 term toks (term_of.Jump op to) = leaf toks k.Br op ⨾ target toks to
 term toks (term_of.Branch op on taken other) = leaf toks k.Br op ⨾ tvalue toks on ⨾ the toks k.Comma ⨾ target toks taken ⨾ the toks k.Comma ⨾ target toks other
 term toks (term_of.Switch x) = leaf toks k.Switch x.op ⨾ tvalue toks x.on ⨾ the toks k.Comma ⨾ target toks x.other ⨾ the toks k.LeftBracket ⨾ many (case toks) x.cases ⨾ the toks k.RightBracket

@@ -1,6 +1,7 @@
 -- How productions are put together. A tree is read as a step: from a token to the token behind what it eats, or nowhere where it
 -- does not fit. So a tree's leaves and its quoted tokens, in order, are the tokens between the two.
-use Rattle.std.specs.Prelude.{◌≡◌, ℕ, suc, ◌≤◌, Bool, true, false, ◌&&◌, ◌||◌, ◌==◌, List, [], ◌∷◌, slice_get, Option, None, Some}
+use Rattle.std.specs.Prelude.{◌≡◌, ℕ, suc, ◌≤◌, Bool, true, false, not, ◌&&◌, ◌==◌, List, [], ◌∷◌, slice_get, Option, None, Some}
+use Rattle.std.specs.List.{list_any}
 use Rattle.ir_tree.specs.declared.terminal.Terminal.{Terminal}
 use Rattle.ir_tree.specs.declared.terminal.Terminal.TheVariants as k
 use Rattle.ir_tree.specs.contracts.terminal.Terminal.{the_type}
@@ -34,29 +35,40 @@ unless false to = to
 abbrev pub is : Terminal → Terminal → Bool
 is = sameb the_type
 
--- one of two terminals
-abbrev pub either : Terminal → Terminal → Terminal → Bool
-either j k = λ t. is j t || is k t
+-- one of these terminals
+abbrev pub among : List Terminal → Terminal → Bool
+among set t = list_any (λ k. is k t) set
 
 abbrev pub seen : (Terminal → Bool) → Option Terminal → Bool
 seen test None = false
-seen test (Some k) = test k
+seen test (Some t) = test t
 
 -- the token at this place passes the test
 unfoldable pub sees : List Terminal → (Terminal → Bool) → ℕ → Bool
 sees toks test a = seen test (slice_get toks a)
 
+-- the token at this place is this terminal
+abbrev pub stands : List Terminal → Terminal → ℕ → Bool
+stands toks k = sees toks (among (k ∷ []))
+
 -- a token that the tree does not keep
 abbrev pub the : List Terminal → Terminal → Step
-the toks k = λ a. when (sees toks (is k) a) (suc a)
+the toks k = λ a. when (stands toks k a) (suc a)
 
 -- a leaf: the number of a token that passes the test
-abbrev pub one_of : List Terminal → (Terminal → Bool) → ℕ → Step
-one_of toks test leaf = λ a. when (leaf == a && sees toks test a) (suc a)
+abbrev pub passing : List Terminal → (Terminal → Bool) → ℕ → Step
+passing toks test leaf = λ a. when (leaf == a && sees toks test a) (suc a)
 
--- a leaf of one terminal
+-- a leaf that is one of these terminals
+abbrev pub one_of : List Terminal → List Terminal → ℕ → Step
+one_of toks set = passing toks (among set)
+
+-- a leaf that is none of these terminals
+abbrev pub none_of : List Terminal → List Terminal → ℕ → Step
+none_of toks set = passing toks (λ t. not (among set t))
+
 abbrev pub leaf : List Terminal → Terminal → ℕ → Step
-leaf toks k = one_of toks (is k)
+leaf toks k = one_of toks (k ∷ [])
 
 -- `x*`
 abbrev pub many : {T : Type 0} → (T → Step) → List T → Step

@@ -1,5 +1,5 @@
 -- The productions of types.
-use Rattle.std.specs.Prelude.{List}
+use Rattle.std.specs.Prelude.{ℕ, List, Option, Some}
 use Rattle.ir_tree.specs.declared.terminal.Terminal.{Terminal}
 use Rattle.ir_tree.specs.declared.terminal.Terminal.TheVariants as k
 use Rattle.ir_tree.specs.declared.types.Ty.{Ty}
@@ -24,7 +24,10 @@ abbrev pub ty : List Terminal → Ty → Step
 ty toks = fold-Ty Step (type_layer toks)
 
 -- the parameters of a written type of function
+abbrev pub types : List Terminal → Ftype → Step
+types toks Empty = Some
+types toks (Dots at) = leaf toks k.Dots at
+types toks (Listed all dots) = listed toks (ty toks) all ⨾ optional (next toks (leaf toks k.Dots)) dots
+
 abbrev pub ftype : List Terminal → Ftype → Step
-ftype toks Empty = the toks k.LeftParen ⨾ the toks k.RightParen
-ftype toks (Dots at) = the toks k.LeftParen ⨾ leaf toks k.Dots at ⨾ the toks k.RightParen
-ftype toks (Listed types dots) = the toks k.LeftParen ⨾ listed toks (ty toks) types ⨾ optional (next toks (leaf toks k.Dots)) dots ⨾ the toks k.RightParen
+ftype toks f = the toks k.LeftParen ⨾ types toks f ⨾ the toks k.RightParen

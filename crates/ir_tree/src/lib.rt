@@ -13,6 +13,7 @@ mod leaf;
 mod terminal;
 mod types;
 mod values;
+mod words;
 
 pub use attributes::{Attach, Cc, Comdat, Fattr, Gattr, Inner, Rattr, Word};
 pub use blocks::{Block, Body, First, Last, Line};
@@ -24,5 +25,6 @@ pub use instructions::{
 };
 pub use leaf::Leaf;
 pub use terminal::Terminal;
+pub use words::WORDS;
 pub use types::{Ftype, Ty};
 pub use values::{Tvalue, Value};
