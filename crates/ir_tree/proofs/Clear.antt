@@ -33,6 +33,14 @@ pub then_then : (o : Option ℕ) (f g : Step) → and_then (and_then o f) g ≡ 
 then_then None f g = refl
 then_then (Some b) f g = refl
 
+-- three steps and one more, however they are taken together
+regroup_from : (o : Option ℕ) (g h i : Step) → and_then (and_then o g) (h ⨾ i) ≡ and_then (and_then o (g ⨾ h)) i
+regroup_from None g h i = refl
+regroup_from (Some b) g h i = sym (then_then (g b) h i)
+
+pub regroup : (f g h i : Step) (a : ℕ) → ((f ⨾ g) ⨾ h ⨾ i) a ≡ ((f ⨾ g ⨾ h) ⨾ i) a
+regroup f g h i a = regroup_from (f a) g h i
+
 pub some_same : (a b : ℕ) → Some a ≡ Some b → a ≡ b
 some_same a b e = cc
 

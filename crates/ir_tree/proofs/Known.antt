@@ -5,7 +5,7 @@ use Rattle.ir_tree.specs.declared.terminal.Terminal.TheVariants as k
 use Rattle.ir_tree.specs.Steps.{Step, the, one_of, leaf, stands, many, some, optional, next, listed, separated, where_not}
 use Rattle.ir_tree.proofs.Looks.{Test, Look, apart}
 use Rattle.ir_tree.proofs.Looks.Test.{In}
-use Rattle.ir_tree.proofs.Clear.{Reads, given, pair, choice, token_reads, the_reads, pair_reads, choice_reads, optional_reads, many_reads, some_reads, next_reads, listed_reads, separated_reads, shape_reads, guarded_reads, behind_reads, token_short}
+use Rattle.ir_tree.proofs.Clear.{Reads, given, pair, choice, token_reads, the_reads, pair_reads, choice_reads, optional_reads, many_reads, some_reads, next_reads, listed_reads, separated_reads, shape_reads, guarded_reads, behind_reads, token_short, the_short}
 
 -- one token of each of these terminals
 abbrev pub firsts : List Terminal → List Look
@@ -62,3 +62,6 @@ module _ {toks : List Terminal} {T : Type 0} {p : T → Step} where
 -- a leaf, and what is behind it as part of what the two begin with
 abbrev pub behind_of : {toks : List Terminal} {U : Type 0} {q : U → Step} (t : Terminal) (of_q : Known toks false q) → Known toks false (pair (leaf toks t) q)
 behind_of {toks} t of_q = record { first = map (λ l. In (t ∷ []) ∷ l) of_q.first; more = of_q.more; at = λ a. behind_reads toks (token_reads toks (In (t ∷ [])) a) (λ x b e. token_short toks _ x a b e) (λ b up. of_q.at b) }
+
+abbrev pub behind_the : {toks : List Terminal} {U : Type 0} {q : U → Step} (t : Terminal) (of_q : Known toks false q) → Known toks false (pair (λ (_ : Unit {0}). the toks t) q)
+behind_the {toks} t of_q = record { first = map (λ l. In (t ∷ []) ∷ l) of_q.first; more = of_q.more; at = λ a. behind_reads toks (the_reads toks t a) (λ x b e. the_short toks t a b e) (λ b up. of_q.at b) }

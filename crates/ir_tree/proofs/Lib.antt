@@ -5,3 +5,7 @@ mod ClearTypes
 mod ClearConstants
 mod ClearAttributes
 mod ClearValues
+mod ClearInstructions
+mod ClearBlocks
+mod ClearHeaders
+mod ClearEntities

@@ -9,6 +9,7 @@ mod constants;
 mod entities;
 mod headers;
 mod instructions;
+mod laws;
 mod leaf;
 mod terminal;
 mod types;
@@ -23,6 +24,7 @@ pub use headers::{Ftail, Header, Param, Params};
 pub use instructions::{
     Alloca, Arg, Arm, Call, Case, Clause, Icmp, Instr, Invoke, Select, Store, Switch, Term,
 };
+pub use laws::one_tree;
 pub use leaf::Leaf;
 pub use terminal::Terminal;
 pub use words::WORDS;
