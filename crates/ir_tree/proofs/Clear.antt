@@ -65,6 +65,7 @@ module _ (toks : List Terminal) where
   pub record Reads {T : Type 0} (p : T → Step) (first more : List Look) (empty : Bool) (a : ℕ) : Type 0 where
     pub clear : (t u : T) (b c : ℕ) → p t a ≡ Some b → p u a ≡ Some c → Told (t ≡ u) more b c
     pub opens : (t : T) (b : ℕ) → p t a ≡ Some b → Opened first empty a b
+    pub within : (t : T) (b : ℕ) → p t a ≡ Some b → a ≤ length toks → b ≤ length toks
 
   told_as : {E E' : Type 0} (more more' : List Look) (b c : ℕ) → (E → E') → ((i : ℕ) → At toks more i → At toks more' i) → Told E more b c → Told E' more' b c
   told_as more more' b c f g (inl e) = inl (f e)
@@ -90,14 +91,22 @@ module _ (toks : List Terminal) where
         inl (st ∙ sym su);
       opens = λ t b et.
         let ft = when_true (eqb t a && sees toks (passes x) a) (suc a) b et in
-        inl (omega (arith, ft.1), inl ((both (eqb t a) (sees toks (passes x) a) ft.0).1, tt)) }
+        inl (omega (arith, ft.1), inl ((both (eqb t a) (sees toks (passes x) a) ft.0).1, tt));
+      within = λ t b et inside.
+        let ft = when_true (eqb t a && sees toks (passes x) a) (suc a) b et in
+        let here : a < length toks = seen_within toks (passes x) a (both (eqb t a) (sees toks (passes x) a) ft.0).1 in
+        omega (arith, ft.1, here) }
 
   pub the_reads : (t : Terminal) (a : ℕ) → Reads {T = Unit {0}} (λ _. the toks t) ((In (t ∷ []) ∷ []) ∷ []) [] false a
   the_reads t a = record
     { clear = λ x y b c ex ey. inl refl;
       opens = λ x b ex.
         let f = when_true (stands toks t a) (suc a) b ex in
-        inl (omega (arith, f.1), inl (f.0, tt)) }
+        inl (omega (arith, f.1), inl (f.0, tt));
+      within = λ x b ex inside.
+        let f = when_true (stands toks t a) (suc a) b ex in
+        let here : a < length toks = seen_within toks (among (t ∷ [])) a f.0 in
+        omega (arith, f.1, here) }
 
   -- behind a token, which is one of the list
   pub passed : (x : Test) (a b : ℕ) → Opened ((x ∷ []) ∷ []) false a b → (a < b) × (a < length toks)
@@ -151,7 +160,12 @@ module _ (toks : List Terminal) where
         go m eu (inr h) (inr o) = inr (o.0 ∙ h.0, ap (λ x. x && empty') h.1 ∙ o.1)
 
     pub pair_reads : Reads (pair p q) (first ++ given empty first') (more' ++ given empty' more) (empty && empty') a
-    pair_reads = record { clear = pair_clear; opens = pair_opens }
+    pair_reads = record
+      { clear = pair_clear;
+        opens = pair_opens;
+        within = λ x b ex inside.
+          let s = split (p x.0 a) (q x.1) b ex in
+          (q_from x.0 s.0 s.1.0).within x.1 b s.1.1 (of_p.within x.0 s.0 s.1.0 inside) }
 
   -- ---- one of two
   module _ {T U : Type 0} {p : T → Step} {q : U → Step} {first more first' more' : List Look} {a : ℕ}
@@ -167,8 +181,12 @@ module _ (toks : List Terminal) where
     choice_opens (inl t) b et = let h = moves first a b (of_p.opens t b et) in inl (h.0, at_left toks first first' a h.1)
     choice_opens (inr t) b et = let h = moves first' a b (of_q.opens t b et) in inl (h.0, at_right toks first first' a h.1)
 
+    choice_within : (x : T ⊎ U) (b : ℕ) → choice p q x a ≡ Some b → a ≤ length toks → b ≤ length toks
+    choice_within (inl t) b et = of_p.within t b et
+    choice_within (inr t) b et = of_q.within t b et
+
     pub choice_reads : Reads (choice p q) (first ++ first') (more ++ more') false a
-    choice_reads = record { clear = choice_clear; opens = choice_opens }
+    choice_reads = record { clear = choice_clear; opens = choice_opens; within = choice_within }
 
   -- ---- one or none
   module _ {T : Type 0} {p : T → Step} {first more : List Look} {a : ℕ} (of_p : Reads p first more false a) where
@@ -189,8 +207,12 @@ module _ (toks : List Terminal) where
     optional_opens None b et = inr (sym (some_same a b et), refl)
     optional_opens (Some t) b et = inl (moves first a b (of_p.opens t b et))
 
+    optional_within : (x : Option T) (b : ℕ) → optional p x a ≡ Some b → a ≤ length toks → b ≤ length toks
+    optional_within None b et inside = let place : a ≡ b = some_same a b et in omega (arith, place, inside)
+    optional_within (Some t) b et inside = of_p.within t b et inside
+
     pub optional_reads : Reads (optional p) first (first ++ more) true a
-    optional_reads = record { clear = optional_clear; opens = optional_opens }
+    optional_reads = record { clear = optional_clear; opens = optional_opens; within = optional_within }
 
   -- ---- any number
   module _ {T : Type 0} {p : T → Step} {first more : List Look} {n : ℕ} (of_p : (b : ℕ) → n ≤ b → Reads p first more false b) (told : apart more first ≡ true) where
@@ -249,8 +271,15 @@ module _ (toks : List Terminal) where
             d)
         ((of_p a up).clear t u s.0 r.0 s.1.0 r.1.0)
 
+    many_within : (ts : List T) (a b : ℕ) → n ≤ a → many p ts a ≡ Some b → a ≤ length toks → b ≤ length toks
+    many_within [] a b up e inside = let place : a ≡ b = some_same a b e in omega (arith, place, inside)
+    many_within (t ∷ ts) a b up e inside =
+        let s = split (p t a) (many p ts) b e in
+        let h = moves first a s.0 ((of_p a up).opens t s.0 s.1.0) in
+        many_within ts s.0 b (omega (arith, h.0)) s.1.1 ((of_p a up).within t s.0 s.1.0 inside)
+
     pub many_reads : Reads (many p) first (first ++ more) true n
-    many_reads = record { clear = λ ts us b c et eu. many_clear ts us n b c (omega arith) et eu; opens = λ ts b et. many_opens ts n b (omega arith) et }
+    many_reads = record { clear = λ ts us b c et eu. many_clear ts us n b c (omega arith) et eu; opens = λ ts b et. many_opens ts n b (omega arith) et; within = λ ts b et. many_within ts n b (omega arith) et }
 
     some_is_many : (ts : List T) (a : ℕ) (b : ℕ) → some p ts a ≡ Some b → many p ts a ≡ Some b
     some_is_many [] a b e = cc
@@ -265,7 +294,7 @@ module _ (toks : List Terminal) where
         inl (omega (arith, h.0, on), h.1)
 
     pub some_reads : Reads (some p) first (first ++ more) false n
-    some_reads = record { clear = λ ts us b c et eu. many_clear ts us n b c (omega arith) (some_is_many ts n b et) (some_is_many us n c eu); opens = some_opens }
+    some_reads = record { clear = λ ts us b c et eu. many_clear ts us n b c (omega arith) (some_is_many ts n b et) (some_is_many us n c eu); opens = some_opens; within = λ ts b et. many_within ts n b (omega arith) (some_is_many ts n b et) }
 
   -- ---- a production by its shape
   module _ {T X : Type 0} {q : X → Step} {first more : List Look} {empty : Bool} {a : ℕ} (p : T → Step)
@@ -278,14 +307,15 @@ module _ (toks : List Terminal) where
         told_as more more b c (λ e. sym vt.1.0 ∙ ap back e ∙ vu.1.0) (λ i h. h) (of_q.clear vt.0 vu.0 b c vt.1.1 vu.1.1)
 
     pub shape_reads : Reads p first more empty a
-    shape_reads = record { clear = shape_clear; opens = λ t b e. let v = view t b e in of_q.opens v.0 b v.1.1 }
+    shape_reads = record { clear = shape_clear; opens = λ t b e. let v = view t b e in of_q.opens v.0 b v.1.1; within = λ t b e. let v = view t b e in of_q.within v.0 b v.1.1 }
 
   -- ---- a step that is barred from some places
   module _ {T : Type 0} {p : T → Step} {first more : List Look} {a : ℕ} (barred : ℕ → Bool) (of_p : Reads p first more false a) where
     pub guarded_reads : Reads (λ t. where_not barred (p t)) first more false a
     guarded_reads = record
       { clear = λ t u b c et eu. of_p.clear t u b c (unless_false (barred a) (p t a) b et).1 (unless_false (barred a) (p u a) c eu).1;
-        opens = λ t b et. of_p.opens t b (unless_false (barred a) (p t a) b et).1 }
+        opens = λ t b et. of_p.opens t b (unless_false (barred a) (p t a) b et).1;
+        within = λ t b et. of_p.within t b (unless_false (barred a) (p t a) b et).1 }
 
   -- a step that is barred where the first of its terminals stands
   module _ {T : Type 0} {p : T → Step} {first more : List Look} {a : ℕ} (t : Terminal) (of_p : Reads p ((In (t ∷ []) ∷ []) ∷ first) more false a) where
@@ -295,7 +325,8 @@ module _ (toks : List Terminal) where
         opens = λ x b ex.
           let u = unless_false (stands toks t a) (p x a) b ex in
           let h = moves ((In (t ∷ []) ∷ []) ∷ first) a b (of_p.opens x b u.1) in
-          inl (h.0, ⊎_elim (λ here. let e : false ≡ true = sym u.0 ∙ here.0 in absurd (falls e)) (λ later. later) h.1) }
+          inl (h.0, ⊎_elim (λ here. let e : false ≡ true = sym u.0 ∙ here.0 in absurd (falls e)) (λ later. later) h.1);
+        within = λ x b ex. of_p.within x b (unless_false (stands toks t a) (p x a) b ex).1 }
 
   -- ---- one token, and what is behind it as part of what the two begin with
   module _ {T U : Type 0} {p : T → Step} {q : U → Step} {x : Test} {first' more' : List Look} {a : ℕ}
@@ -313,7 +344,7 @@ module _ (toks : List Terminal) where
         inl (omega (arith, h.0, g.0), at_behind toks x first' a (⊎_elim (λ l. l.0) (λ l. absurd l) h.1) (subst (λ z. At toks first' z) place g.1))
 
     pub behind_reads : Reads (pair p q) (map (λ l. x ∷ l) first') more' false a
-    behind_reads = record { clear = λ y z b c e e'. told_as (more' ++ []) more' b c (λ i. i) (λ i h. at_nil toks more' i h) (behind.clear y z b c e e'); opens = behind_opens }
+    behind_reads = record { clear = λ y z b c e e'. told_as (more' ++ []) more' b c (λ i. i) (λ i h. at_nil toks more' i h) (behind.clear y z b c e e'); opens = behind_opens; within = behind.within }
 
   pub token_short : (test : Terminal → Bool) (t a b : ℕ) → passing toks test t a ≡ Some b → b ≡ suc a
   token_short test t a b e = (when_true (eqb t a && sees toks test a) (suc a) b e).1

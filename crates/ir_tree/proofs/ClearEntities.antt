@@ -143,3 +143,7 @@ module _ (toks : List Terminal) where
 
   pub one_tree : (t u : Tree) → FitsTerminals t toks → FitsTerminals u toks → t ≡ u
   one_tree t u h g = let e : t.entities ≡ u.entities = one_taken t.entities u.entities 0 (length toks) h g in λ i. record { entities = e i }
+
+  -- an entity ends within the tokens
+  pub entity_within : (t : Entity) (a b : ℕ) → a ≤ length toks → entity toks t a ≡ Some b → b ≤ length toks
+  entity_within t a b inside e = (entity_of.at a).within t b e inside

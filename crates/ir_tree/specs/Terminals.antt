@@ -1,5 +1,6 @@
 -- What each token is to the grammar.
 use Rattle.std.specs.Prelude.{ℕ, ◌-◌, Bool, ◌&&◌, if◌then◌else◌, ◌==◌, nat_lt, List, [], ◌∷◌, map, length, slice_index, slice_index_or, slice_range, drop}
+use Rattle.std.specs.Borrow.{Bor}
 use Rattle.std.specs.List.{list_all}
 use Rattle.std.specs.Str.{bytes_eq}
 use Rattle.std.specs.Char.{is_ascii_digit, is_ascii_lowercase}
@@ -15,6 +16,13 @@ use Rattle.ir_tree.specs.declared.words.TheConstants.{WORDS}
 abbrev pub found : List (Bytes × Terminal) → Bytes → Terminal
 found [] w = k.Word
 found (x ∷ row) w = if bytes_eq x.0 w then x.1 else found row w
+
+-- a word as a table has it
+abbrev pub entry : Bor (List ℕ) × Terminal → Bytes × Terminal
+entry x = (x.0.now, x.1)
+
+abbrev pub entries : List (Bor (List ℕ) × Terminal) → List (Bytes × Terminal)
+entries row = map entry row
 
 -- the words of the grammar, a row for each letter
 unfoldable pub rows : List (List (Bytes × Terminal))

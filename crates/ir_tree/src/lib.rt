@@ -11,6 +11,7 @@ mod headers;
 mod instructions;
 mod laws;
 mod leaf;
+mod reserved;
 mod terminal;
 mod types;
 mod values;
@@ -26,6 +27,7 @@ pub use instructions::{
 };
 pub use laws::one_tree;
 pub use leaf::Leaf;
+pub use reserved::terminal_of;
 pub use terminal::Terminal;
 pub use words::WORDS;
 pub use types::{Ftype, Ty};
