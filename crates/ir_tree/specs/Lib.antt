@@ -9,3 +9,4 @@ pub mod Blocks
 pub mod Headers
 pub mod Entities
 pub mod Fits
+pub mod Example

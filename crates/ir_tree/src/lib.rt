@@ -25,7 +25,7 @@ pub use headers::{Ftail, Header, Param, Params};
 pub use instructions::{
     Alloca, Arg, Arm, Call, Case, Clause, Icmp, Instr, Invoke, Select, Store, Switch, Term,
 };
-pub use laws::one_tree;
+pub use laws::{one_tree, some_tree};
 pub use leaf::Leaf;
 pub use reserved::terminal_of;
 pub use terminal::Terminal;
