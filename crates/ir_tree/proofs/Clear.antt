@@ -1,10 +1,10 @@
 -- Productions of which at most one tree fits: how that is shown of a production from its parts.
-use Rattle.std.proofs.Common.{◌≡◌, ℕ, zero, suc, ◌+◌, ◌<◌, ◌≤◌, Bool, true, false, not, ◌&&◌, eqb, eqb-true, List, [], ◌∷◌, ◌++◌, length, map, Option, None, Some, ◌⊎◌, inl, inr, ⊎_elim, refl, sym, ap, ◌∙◌, subst, arith}
+use Rattle.std.proofs.Common.{◌≡◌, ℕ, zero, suc, ◌+◌, ◌<◌, ◌≤◌, Bool, true, false, ◌&&◌, eqb, eqb-true, List, [], ◌∷◌, ◌++◌, length, map, Option, None, Some, ◌⊎◌, inl, inr, ⊎_elim, refl, sym, ap, ◌∙◌, subst, arith}
 use Rattle.ir_tree.specs.declared.terminal.Terminal.{Terminal}
 use Rattle.ir_tree.specs.declared.terminal.Terminal.TheVariants as k
-use Rattle.ir_tree.specs.Steps.{Step, and_then, ◌⨾◌, when, unless, among, sees, stands, the, passing, one_of, many, some, optional, next, listed, separated, where_not}
+use Rattle.ir_tree.specs.Steps.{Step, and_then, ◌⨾◌, when, unless, among, sees, stands, the, passing, many, some, optional, next, listed, separated, where_not}
 use Rattle.ir_tree.proofs.Looks.{Test, passes, Look, apart, both, falls, At, at_clash, at_left, at_right, at_nil, at_behind, seen_within}
-use Rattle.ir_tree.proofs.Looks.Test.{In, Out}
+use Rattle.ir_tree.proofs.Looks.Test.{In}
 
 -- what follows where the test holds
 abbrev pub given : Bool → List Look → List Look
@@ -82,31 +82,33 @@ module _ (toks : List Terminal) where
 
   -- ---- one token
   pub token_reads : (x : Test) (a : ℕ) → Reads (passing toks (passes x)) ((x ∷ []) ∷ []) [] false a
-  token_reads x a = record
-    { clear = λ t u b c et eu.
+  token_reads x a = record {
+    clear = λ t u b c et eu.
         let ft = when_true (eqb t a && sees toks (passes x) a) (suc a) b et in
         let fu = when_true (eqb u a && sees toks (passes x) a) (suc a) c eu in
         let st : t ≡ a = eqb-true t a (both (eqb t a) (sees toks (passes x) a) ft.0).0 in
         let su : u ≡ a = eqb-true u a (both (eqb u a) (sees toks (passes x) a) fu.0).0 in
         inl (st ∙ sym su);
-      opens = λ t b et.
+    opens = λ t b et.
         let ft = when_true (eqb t a && sees toks (passes x) a) (suc a) b et in
         inl (omega (arith, ft.1), inl ((both (eqb t a) (sees toks (passes x) a) ft.0).1, tt));
-      within = λ t b et inside.
+    within = λ t b et inside.
         let ft = when_true (eqb t a && sees toks (passes x) a) (suc a) b et in
         let here : a < length toks = seen_within toks (passes x) a (both (eqb t a) (sees toks (passes x) a) ft.0).1 in
-        omega (arith, ft.1, here) }
+        omega (arith, ft.1, here);
+  }
 
   pub the_reads : (t : Terminal) (a : ℕ) → Reads {T = Unit {0}} (λ _. the toks t) ((In (t ∷ []) ∷ []) ∷ []) [] false a
-  the_reads t a = record
-    { clear = λ x y b c ex ey. inl refl;
-      opens = λ x b ex.
+  the_reads t a = record {
+    clear = λ x y b c ex ey. inl refl;
+    opens = λ x b ex.
         let f = when_true (stands toks t a) (suc a) b ex in
         inl (omega (arith, f.1), inl (f.0, tt));
-      within = λ x b ex inside.
+    within = λ x b ex inside.
         let f = when_true (stands toks t a) (suc a) b ex in
         let here : a < length toks = seen_within toks (among (t ∷ [])) a f.0 in
-        omega (arith, f.1, here) }
+        omega (arith, f.1, here);
+  }
 
   -- behind a token, which is one of the list
   pub passed : (x : Test) (a b : ℕ) → Opened ((x ∷ []) ∷ []) false a b → (a < b) × (a < length toks)
@@ -117,7 +119,6 @@ module _ (toks : List Terminal) where
   -- ---- one behind the other
   module _ {T U : Type 0} {p : T → Step} {q : U → Step} {first more first' more' : List Look} {empty empty' : Bool} {a : ℕ}
       (of_p : Reads p first more empty a) (of_q : (b : ℕ) → Opened first empty a b → Reads q first' more' empty' b) (told : apart more first' ≡ true) where
-
     q_from : (t : T) (m : ℕ) → p t a ≡ Some m → Reads q first' more' empty' m
     q_from t m e = of_q m (of_p.opens t m e)
 
@@ -160,17 +161,17 @@ module _ (toks : List Terminal) where
         go m eu (inr h) (inr o) = inr (o.0 ∙ h.0, ap (λ x. x && empty') h.1 ∙ o.1)
 
     pub pair_reads : Reads (pair p q) (first ++ given empty first') (more' ++ given empty' more) (empty && empty') a
-    pair_reads = record
-      { clear = pair_clear;
-        opens = pair_opens;
-        within = λ x b ex inside.
+    pair_reads = record {
+      clear = pair_clear;
+      opens = pair_opens;
+      within = λ x b ex inside.
           let s = split (p x.0 a) (q x.1) b ex in
-          (q_from x.0 s.0 s.1.0).within x.1 b s.1.1 (of_p.within x.0 s.0 s.1.0 inside) }
+          (q_from x.0 s.0 s.1.0).within x.1 b s.1.1 (of_p.within x.0 s.0 s.1.0 inside);
+    }
 
   -- ---- one of two
   module _ {T U : Type 0} {p : T → Step} {q : U → Step} {first more first' more' : List Look} {a : ℕ}
       (of_p : Reads p first more false a) (of_q : Reads q first' more' false a) (told : apart first first' ≡ true) where
-
     choice_clear : (x y : T ⊎ U) (b c : ℕ) → choice p q x a ≡ Some b → choice p q y a ≡ Some c → Told (x ≡ y) (more ++ more') b c
     choice_clear (inl t) (inl u) b c et eu = told_as more (more ++ more') b c (λ e. ap inl e) (λ i h. at_left toks more more' i h) (of_p.clear t u b c et eu)
     choice_clear (inr t) (inr u) b c et eu = told_as more' (more ++ more') b c (λ e. ap inr e) (λ i h. at_right toks more more' i h) (of_q.clear t u b c et eu)
@@ -190,7 +191,6 @@ module _ (toks : List Terminal) where
 
   -- ---- one or none
   module _ {T : Type 0} {p : T → Step} {first more : List Look} {a : ℕ} (of_p : Reads p first more false a) where
-
     optional_clear : (x y : Option T) (b c : ℕ) → optional p x a ≡ Some b → optional p y a ≡ Some c → Told (x ≡ y) (first ++ more) b c
     optional_clear None None b c et eu = inl refl
     optional_clear (Some t) (Some u) b c et eu = told_as more (first ++ more) b c (λ e. ap Some e) (λ i h. at_right toks first more i h) (of_p.clear t u b c et eu)
@@ -216,7 +216,6 @@ module _ (toks : List Terminal) where
 
   -- ---- any number
   module _ {T : Type 0} {p : T → Step} {first more : List Look} {n : ℕ} (of_p : (b : ℕ) → n ≤ b → Reads p first more false b) (told : apart more first ≡ true) where
-
     many_opens : (ts : List T) (a b : ℕ) → n ≤ a → many p ts a ≡ Some b → Opened first true a b
     many_opens [] a b up e = inr (sym (some_same a b e), refl)
     many_opens (t ∷ ts) a b up e =
@@ -263,12 +262,12 @@ module _ (toks : List Terminal) where
         let hr = moves first a r.0 ((of_p a up).opens u r.0 r.1.0) in
         ⊎_elim
         (λ same.
-            let place : r.0 ≡ s.0 = some_same r.0 s.0 (sym r.1.0 ∙ ap (λ z. p z a) (sym same) ∙ s.1.0) in
-            told_as (first ++ more) (first ++ more) b c (λ e i. same i ∷ e i) (λ i h. h) (many_clear ts us s.0 b c (omega (arith, hs.0)) s.1.1 (subst (λ z. many p us z ≡ Some c) place r.1.1)))
+        let place : r.0 ≡ s.0 = some_same r.0 s.0 (sym r.1.0 ∙ ap (λ z. p z a) (sym same) ∙ s.1.0) in
+        told_as (first ++ more) (first ++ more) b c (λ e i. same i ∷ e i) (λ i h. h) (many_clear ts us s.0 b c (omega (arith, hs.0)) s.1.1 (subst (λ z. many p us z ≡ Some c) place r.1.1)))
         (λ d. ⊎_elim
-            (λ h. inr (inl (many_shorter ts us s.0 r.0 b c (omega (arith, hs.0)) s.1.1 r.1.1 h.0 h.1)))
-            (λ h. inr (inr (many_shorter us ts r.0 s.0 c b (omega (arith, hr.0)) r.1.1 s.1.1 h.0 h.1)))
-            d)
+        (λ h. inr (inl (many_shorter ts us s.0 r.0 b c (omega (arith, hs.0)) s.1.1 r.1.1 h.0 h.1)))
+        (λ h. inr (inr (many_shorter us ts r.0 s.0 c b (omega (arith, hr.0)) r.1.1 s.1.1 h.0 h.1)))
+        d)
         ((of_p a up).clear t u s.0 r.0 s.1.0 r.1.0)
 
     many_within : (ts : List T) (a b : ℕ) → n ≤ a → many p ts a ≡ Some b → a ≤ length toks → b ≤ length toks
@@ -299,7 +298,6 @@ module _ (toks : List Terminal) where
   -- ---- a production by its shape
   module _ {T X : Type 0} {q : X → Step} {first more : List Look} {empty : Bool} {a : ℕ} (p : T → Step)
       (back : X → T) (view : (t : T) (b : ℕ) → p t a ≡ Some b → (x : X) × ((back x ≡ t) × (q x a ≡ Some b))) (of_q : Reads q first more empty a) where
-
     shape_clear : (t u : T) (b c : ℕ) → p t a ≡ Some b → p u a ≡ Some c → Told (t ≡ u) more b c
     shape_clear t u b c et eu =
         let vt = view t b et in
@@ -312,26 +310,27 @@ module _ (toks : List Terminal) where
   -- ---- a step that is barred from some places
   module _ {T : Type 0} {p : T → Step} {first more : List Look} {a : ℕ} (barred : ℕ → Bool) (of_p : Reads p first more false a) where
     pub guarded_reads : Reads (λ t. where_not barred (p t)) first more false a
-    guarded_reads = record
-      { clear = λ t u b c et eu. of_p.clear t u b c (unless_false (barred a) (p t a) b et).1 (unless_false (barred a) (p u a) c eu).1;
-        opens = λ t b et. of_p.opens t b (unless_false (barred a) (p t a) b et).1;
-        within = λ t b et. of_p.within t b (unless_false (barred a) (p t a) b et).1 }
+    guarded_reads = record {
+      clear = λ t u b c et eu. of_p.clear t u b c (unless_false (barred a) (p t a) b et).1 (unless_false (barred a) (p u a) c eu).1;
+      opens = λ t b et. of_p.opens t b (unless_false (barred a) (p t a) b et).1;
+      within = λ t b et. of_p.within t b (unless_false (barred a) (p t a) b et).1;
+    }
 
   -- a step that is barred where the first of its terminals stands
   module _ {T : Type 0} {p : T → Step} {first more : List Look} {a : ℕ} (t : Terminal) (of_p : Reads p ((In (t ∷ []) ∷ []) ∷ first) more false a) where
     pub barred_reads : Reads (λ x. where_not (stands toks t) (p x)) first more false a
-    barred_reads = record
-      { clear = λ x y b c ex ey. of_p.clear x y b c (unless_false (stands toks t a) (p x a) b ex).1 (unless_false (stands toks t a) (p y a) c ey).1;
-        opens = λ x b ex.
+    barred_reads = record {
+      clear = λ x y b c ex ey. of_p.clear x y b c (unless_false (stands toks t a) (p x a) b ex).1 (unless_false (stands toks t a) (p y a) c ey).1;
+      opens = λ x b ex.
           let u = unless_false (stands toks t a) (p x a) b ex in
           let h = moves ((In (t ∷ []) ∷ []) ∷ first) a b (of_p.opens x b u.1) in
           inl (h.0, ⊎_elim (λ here. let e : false ≡ true = sym u.0 ∙ here.0 in absurd (falls e)) (λ later. later) h.1);
-        within = λ x b ex. of_p.within x b (unless_false (stands toks t a) (p x a) b ex).1 }
+      within = λ x b ex. of_p.within x b (unless_false (stands toks t a) (p x a) b ex).1;
+    }
 
   -- ---- one token, and what is behind it as part of what the two begin with
   module _ {T U : Type 0} {p : T → Step} {q : U → Step} {x : Test} {first' more' : List Look} {a : ℕ}
       (of_p : Reads p ((x ∷ []) ∷ []) [] false a) (short : (t : T) (b : ℕ) → p t a ≡ Some b → b ≡ suc a) (of_q : (b : ℕ) → a < b → Reads q first' more' false b) where
-
     behind : Reads (pair p q) ((x ∷ []) ∷ []) (more' ++ []) false a
     behind = pair_reads of_p (λ b o. of_q b (moves ((x ∷ []) ∷ []) a b o).0) refl
 
@@ -354,13 +353,11 @@ module _ (toks : List Terminal) where
 
   -- ---- lists with commas
   module _ {T : Type 0} {p : T → Step} {first more : List Look} {a : ℕ} (of_p : (b : ℕ) → a ≤ b → Reads p first more false b) where
-
     pub next_reads : Reads (next toks p) (map (λ l. In (k.Comma ∷ []) ∷ l) first) more false a
     next_reads = shape_reads (next toks p) (λ (x : Unit {0} × T). x.1) (λ t b e. ((tt, t), (refl, e))) (behind_reads (the_reads k.Comma a) (λ t b e. the_short k.Comma a b e) (λ b l. of_p b (omega (arith, l))))
 
   module _ {T : Type 0} {p : T → Step} {first more : List Look} {a : ℕ} (of_p : (b : ℕ) → a ≤ b → Reads p first more false b)
       (told : apart more (map (λ l. In (k.Comma ∷ []) ∷ l) first) ≡ true) where
-
     listed_shape : (ts : List T) (b : ℕ) → listed toks p ts a ≡ Some b → (x : T × List T) × ((x.0 ∷ x.1 ≡ ts) × (pair p (many (next toks p)) x a ≡ Some b))
     listed_shape [] b e = cc
     listed_shape (t ∷ ts) b e = ((t, ts), (refl, e))

@@ -1,5 +1,5 @@
 -- At most one block and one body fits from a place up to another.
-use Rattle.std.proofs.Common.{◌≡◌, ℕ, Bool, true, false, List, [], ◌∷◌, ◌++◌, map, Option, None, Some, ◌⊎◌, inl, inr, refl, sym, ◌∙◌}
+use Rattle.std.proofs.Common.{◌≡◌, ℕ, true, false, List, Option, None, Some, ◌⊎◌, inl, inr, refl, sym, ◌∙◌}
 use Rattle.ir_tree.specs.declared.terminal.Terminal.{Terminal}
 use Rattle.ir_tree.specs.declared.terminal.Terminal.TheVariants as k
 use Rattle.ir_tree.specs.declared.attributes.Attach.{Attach}
@@ -12,14 +12,12 @@ use Rattle.ir_tree.specs.declared.blocks.Last.{Last}
 use Rattle.ir_tree.specs.declared.blocks.Last.TheVariants as last_is
 use Rattle.ir_tree.specs.declared.blocks.First.{First}
 use Rattle.ir_tree.specs.declared.blocks.Block.{Block}
-use Rattle.ir_tree.specs.declared.blocks.Body.{Body}
-use Rattle.ir_tree.specs.Steps.{Step, ◌⨾◌, the, leaf, many, optional, next}
+use Rattle.ir_tree.specs.Steps.{Step, the, leaf, many, next}
 use Rattle.ir_tree.specs.Attributes.{attach}
 use Rattle.ir_tree.specs.Instructions.{instr, invoke, term}
 use Rattle.ir_tree.specs.Blocks.{line, last, first, block, body}
-use Rattle.ir_tree.proofs.Looks.Test.{In}
-use Rattle.ir_tree.proofs.Clear.{Reads, pair, choice, regroup}
-use Rattle.ir_tree.proofs.Known.{Known, leaf_of, the_of, pair_of, choice_of, optional_of, many_of, next_of, behind_of, behind_the, shape_of}
+use Rattle.ir_tree.proofs.Clear.{pair, choice, regroup}
+use Rattle.ir_tree.proofs.Known.{Known, leaf_of, pair_of, choice_of, optional_of, many_of, next_of, behind_of, behind_the, shape_of}
 use Rattle.ir_tree.proofs.ClearAttributes.{attach_of}
 use Rattle.ir_tree.proofs.ClearInstructions.{instr_of, invoke_of, term_of}
 

@@ -1,5 +1,5 @@
 -- At most one constant fits from a place, and constants have one length.
-use Rattle.std.proofs.Common.{◌≡◌, ℕ, ◌+◌, ◌<◌, ◌≤◌, Bool, true, false, List, [], ◌∷◌, ◌++◌, length, map, Some, ◌⊎◌, inl, inr, refl, sym, ap, ◌∙◌, subst, arith}
+use Rattle.std.proofs.Common.{◌≡◌, ℕ, ◌<◌, ◌≤◌, true, false, List, [], ◌∷◌, ◌++◌, length, map, Some, ◌⊎◌, inl, inr, refl, sym, ap, ◌∙◌, subst, arith}
 use Rattle.ir_tree.specs.declared.terminal.Terminal.{Terminal}
 use Rattle.ir_tree.specs.declared.terminal.Terminal.TheVariants as k
 use Rattle.ir_tree.specs.declared.types.Ty.{Ty}
@@ -7,18 +7,18 @@ use Rattle.ir_tree.specs.declared.constants.Gepflag.{Gepflag}
 use Rattle.ir_tree.specs.declared.constants.Gepflag.TheVariants as gepflag_of
 use Rattle.ir_tree.specs.declared.constants.Const.{Const}
 use Rattle.ir_tree.specs.declared.constants.Tconst.{Tconst}
-use Rattle.ir_tree.specs.declared.constants.Const.TheOpen.{Const-F, Tconst-F}
+use Rattle.ir_tree.specs.declared.constants.Const.TheOpen.{Const-F}
 use Rattle.ir_tree.specs.declared.constants.Const.TheOpen.Const-F.{Int, True, False, Null, Undef, Poison, Zero, Global, CStr, Array, Struct, Packed, GetElementPtr, Cast, Binop}
 use Rattle.ir_tree.specs.declared.constants.Const.TheViews.{roll-Const}
-use Rattle.ir_tree.specs.declared.constants.Const.TheFolds.{fold-Const, fold-Tconst, fold-roll-Const, fold_out-Tconst, ind-Const, map-Const}
+use Rattle.ir_tree.specs.declared.constants.Const.TheFolds.{fold-Tconst, fold-roll-Const, fold_out-Tconst, ind-Const, map-Const}
 use Rattle.ir_tree.specs.Steps.{Step, ◌⨾◌, the, leaf, one_of, many, some, next, separated}
 use Rattle.ir_tree.specs.Types.{ty}
 use Rattle.ir_tree.specs.Constants.{iflag, gepflag, const_layer, tconst_layer, const, tconst}
 use Rattle.ir_tree.proofs.Looks.{Look}
 use Rattle.ir_tree.proofs.Looks.Test.{In}
-use Rattle.ir_tree.proofs.Clear.{Reads, Opened, pair, choice, passed, rises, moves, token_reads, the_reads, pair_reads, choice_reads, many_reads, some_reads, next_reads, separated_reads, separated_map, some_next_map, shape_reads, everywhere}
+use Rattle.ir_tree.proofs.Clear.{Reads, pair, choice, passed, rises, token_reads, the_reads, pair_reads, choice_reads, many_reads, some_reads, next_reads, separated_reads, separated_map, some_next_map, shape_reads, everywhere}
 use Rattle.ir_tree.proofs.Known.{Known, firsts, leaf_of, set_of, the_of, pair_of, choice_of, shape_of}
-use Rattle.ir_tree.proofs.ClearTypes.{ty_first, ty_reads, ty_of}
+use Rattle.ir_tree.proofs.ClearTypes.{ty_first, ty_reads}
 
 -- ---- flags
 abbrev pub FlagShape : Type 0
@@ -32,7 +32,7 @@ module _ (toks : List Terminal) where
   abbrev pub iflag_of : Known toks false (iflag toks)
   iflag_of = set_of (k.Nuw ∷ k.Iflag ∷ [])
 
-  abbrev flag_shape : FlagShape → Step
+  abbrev pub flag_shape : FlagShape → Step
   flag_shape = choice (one_of toks (k.Nuw ∷ k.Gepflag ∷ [])) (pair (leaf toks k.InRange) (pair (λ _. the toks k.LeftParen) (pair (leaf toks k.Int) (pair (λ _. the toks k.Comma) (pair (leaf toks k.Int) (λ _. the toks k.RightParen))))))
 
   pub gepflag_view : (t : Gepflag) (a b : ℕ) → gepflag toks t a ≡ Some b → (x : FlagShape) × ((gepflag_back x ≡ t) × (flag_shape x a ≡ Some b))
@@ -46,25 +46,25 @@ module _ (toks : List Terminal) where
 opened : (c : Const) → (x : Const-F Const Tconst) × (roll-Const x ≡ c)
 opened = ind-Const (λ c. (x : Const-F Const Tconst) × (roll-Const x ≡ c)) (λ t. Unit {0}) (λ x y is. (x, refl)) (λ x y is. tt)
 
-abbrev ArrayShape : Type 0
+abbrev pub ArrayShape : Type 0
 ArrayShape = ℕ × (List Tconst × Unit {0})
 
-abbrev PackedShape : Type 0
+abbrev pub PackedShape : Type 0
 PackedShape = ℕ × (Unit {0} × (List Tconst × (Unit {0} × Unit {0})))
 
-abbrev GepShape : Type 0
+abbrev pub GepShape : Type 0
 GepShape = ℕ × (List Gepflag × (Unit {0} × (Ty × (List Tconst × Unit {0}))))
 
-abbrev CastShape : Type 0
+abbrev pub CastShape : Type 0
 CastShape = ℕ × (Unit {0} × (Tconst × (Unit {0} × (Ty × Unit {0}))))
 
-abbrev BinopShape : Type 0
+abbrev pub BinopShape : Type 0
 BinopShape = ℕ × (List ℕ × (Unit {0} × (Tconst × (Unit {0} × (Tconst × Unit {0})))))
 
-abbrev Shape : Type 0
+abbrev pub Shape : Type 0
 Shape = ℕ ⊎ (ℕ ⊎ (ℕ ⊎ (ℕ ⊎ (ℕ ⊎ (ℕ ⊎ (ℕ ⊎ (ℕ ⊎ (ℕ ⊎ (ArrayShape ⊎ (ArrayShape ⊎ (PackedShape ⊎ (GepShape ⊎ (CastShape ⊎ BinopShape)))))))))))))
 
-abbrev back : Shape → Const
+abbrev pub back : Shape → Const
 back (inl at) = roll-Const (Int at)
 back (inr (inl at)) = roll-Const (True at)
 back (inr (inr (inl at))) = roll-Const (False at)
@@ -86,25 +86,25 @@ abbrev pub const_first : List Look
 const_first = firsts (k.Int ∷ k.True ∷ k.False ∷ k.Null ∷ k.Undef ∷ k.Poison ∷ k.Zero ∷ k.Global ∷ k.CStr ∷ k.LeftBracket ∷ k.LeftBrace ∷ k.Less ∷ k.GetElementPtr ∷ k.ConstCast ∷ k.ConstBinop ∷ [])
 
 module _ (toks : List Terminal) where
-  abbrev array : ArrayShape → Step
+  abbrev pub array : ArrayShape → Step
   array = pair (leaf toks k.LeftBracket) (pair (separated toks (tconst toks)) (λ _. the toks k.RightBracket))
 
-  abbrev struct : ArrayShape → Step
+  abbrev pub struct : ArrayShape → Step
   struct = pair (leaf toks k.LeftBrace) (pair (separated toks (tconst toks)) (λ _. the toks k.RightBrace))
 
-  abbrev packed : PackedShape → Step
+  abbrev pub packed : PackedShape → Step
   packed = pair (leaf toks k.Less) (pair (λ _. the toks k.LeftBrace) (pair (separated toks (tconst toks)) (pair (λ _. the toks k.RightBrace) (λ _. the toks k.Greater))))
 
-  abbrev gep : GepShape → Step
+  abbrev pub gep : GepShape → Step
   gep = pair (leaf toks k.GetElementPtr) (pair (many (gepflag toks)) (pair (λ _. the toks k.LeftParen) (pair (ty toks) (pair (some (next toks (tconst toks))) (λ _. the toks k.RightParen)))))
 
-  abbrev cast : CastShape → Step
+  abbrev pub cast : CastShape → Step
   cast = pair (leaf toks k.ConstCast) (pair (λ _. the toks k.LeftParen) (pair (tconst toks) (pair (λ _. the toks k.To) (pair (ty toks) (λ _. the toks k.RightParen)))))
 
-  abbrev binop : BinopShape → Step
+  abbrev pub binop : BinopShape → Step
   binop = pair (leaf toks k.ConstBinop) (pair (many (iflag toks)) (pair (λ _. the toks k.LeftParen) (pair (tconst toks) (pair (λ _. the toks k.Comma) (pair (tconst toks) (λ _. the toks k.RightParen))))))
 
-  abbrev shape : Shape → Step
+  abbrev pub shape : Shape → Step
   shape = choice (leaf toks k.Int) (choice (leaf toks k.True) (choice (leaf toks k.False) (choice (leaf toks k.Null) (choice (leaf toks k.Undef) (choice (leaf toks k.Poison) (choice (leaf toks k.Zero) (choice (leaf toks k.Global) (choice (leaf toks k.CStr) (choice array (choice struct (choice packed (choice gep (choice cast binop)))))))))))))
 
   fold_tconst : (t : Tconst) → fold-Tconst Step Step (const_layer toks) (tconst_layer toks) t ≡ tconst toks t
@@ -113,7 +113,7 @@ module _ (toks : List Terminal) where
   fold_tconsts : fold-Tconst Step Step (const_layer toks) (tconst_layer toks) ≡ tconst toks
   fold_tconsts = λ i t. fold_tconst t i
 
-  view : (a : ℕ) (t : Const) (b : ℕ) → const toks t a ≡ Some b → (x : Shape) × ((back x ≡ t) × (shape x a ≡ Some b))
+  pub view : (a : ℕ) (t : Const) (b : ℕ) → const toks t a ≡ Some b → (x : Shape) × ((back x ≡ t) × (shape x a ≡ Some b))
   view a t b e = let o = opened t in subst (λ t. const toks t a ≡ Some b → (x : Shape) × ((back x ≡ t) × (shape x a ≡ Some b))) o.1 (λ e. go o.0 (sym (ap (λ step. step a) (fold-roll-Const Step Step (const_layer toks) (tconst_layer toks) o.0 ∙ ap (λ f. const_layer toks (map-Const Const Tconst Step Step (const toks) f o.0)) fold_tconsts)) ∙ e)) e
     where
       go : (x : Const-F Const Tconst) → const_layer toks (map-Const Const Tconst Step Step (const toks) (tconst toks) x) a ≡ Some b → (s : Shape) × ((back s ≡ roll-Const x) × (shape s a ≡ Some b))

@@ -1,5 +1,5 @@
 -- At most one entity fits from a place up to another, and so at most one module fits the tokens.
-use Rattle.std.proofs.Common.{◌≡◌, ℕ, ◌<◌, ◌≤◌, Bool, true, false, List, [], ◌∷◌, ◌++◌, length, map, Option, None, Some, ◌⊎◌, inl, inr, ⊎_elim, refl, sym, ap, ◌∙◌, subst, arith}
+use Rattle.std.proofs.Common.{◌≡◌, ℕ, ◌<◌, ◌≤◌, false, List, [], ◌∷◌, length, Option, Some, ◌⊎◌, inl, inr, ⊎_elim, refl, sym, subst, arith}
 use Rattle.ir_tree.specs.declared.terminal.Terminal.{Terminal}
 use Rattle.ir_tree.specs.declared.terminal.Terminal.TheVariants as k
 use Rattle.ir_tree.specs.declared.types.Ty.{Ty}
@@ -19,16 +19,12 @@ use Rattle.ir_tree.specs.declared.entities.Define.{Define}
 use Rattle.ir_tree.specs.declared.entities.Entity.{Entity}
 use Rattle.ir_tree.specs.declared.entities.Entity.TheVariants as entity_is
 use Rattle.ir_tree.specs.declared.entities.Tree.{Tree}
-use Rattle.ir_tree.specs.Steps.{Step, ◌⨾◌, the, leaf, many, optional, next, Longest, Taken}
+use Rattle.ir_tree.specs.Steps.{Step, the, leaf, many, Longest, Taken}
 use Rattle.ir_tree.specs.Types.{ty}
-use Rattle.ir_tree.specs.Constants.{const}
 use Rattle.ir_tree.specs.Attributes.{awords, aword, gattr, comdat, attach}
-use Rattle.ir_tree.specs.Blocks.{body}
-use Rattle.ir_tree.specs.Headers.{header}
-use Rattle.ir_tree.specs.Entities.{gword, gtail, names_next, initial, global_var, declare, define, type_body, entity}
+use Rattle.ir_tree.specs.Entities.{gtail, names_next, global_var, declare, define, type_body, entity}
 use Rattle.ir_tree.specs.Fits.{FitsTerminals}
-use Rattle.ir_tree.proofs.Looks.Test.{In}
-use Rattle.ir_tree.proofs.Clear.{Reads, Told, pair, choice, moves}
+use Rattle.ir_tree.proofs.Clear.{pair, choice, moves}
 use Rattle.ir_tree.proofs.Known.{Known, leaf_of, set_of, the_of, pair_of, choice_of, optional_of, many_of, next_of, guarded_of, shape_of}
 use Rattle.ir_tree.proofs.ClearTypes.{ty_of}
 use Rattle.ir_tree.proofs.ClearConstants.{const_of}

@@ -1,5 +1,5 @@
 -- At most one header fits from a place up to another.
-use Rattle.std.proofs.Common.{◌≡◌, ℕ, Bool, true, false, List, [], ◌∷◌, ◌++◌, map, Option, None, Some, ◌⊎◌, inl, inr, refl}
+use Rattle.std.proofs.Common.{◌≡◌, ℕ, true, false, List, Option, None, Some, ◌⊎◌, inl, inr, refl}
 use Rattle.ir_tree.specs.declared.terminal.Terminal.{Terminal}
 use Rattle.ir_tree.specs.declared.terminal.Terminal.TheVariants as k
 use Rattle.ir_tree.specs.declared.types.Ty.{Ty}
@@ -14,14 +14,11 @@ use Rattle.ir_tree.specs.declared.headers.Params.{Params}
 use Rattle.ir_tree.specs.declared.headers.Params.TheVariants as params_is
 use Rattle.ir_tree.specs.declared.headers.Ftail.{Ftail}
 use Rattle.ir_tree.specs.declared.headers.Ftail.TheVariants as ftail_is
-use Rattle.ir_tree.specs.declared.headers.Header.{Header}
-use Rattle.ir_tree.specs.Steps.{Step, ◌⨾◌, the, leaf, many, optional, next, listed}
-use Rattle.ir_tree.specs.Types.{ty}
+use Rattle.ir_tree.specs.Steps.{Step, leaf, optional, next, listed}
 use Rattle.ir_tree.specs.Constants.{tconst}
-use Rattle.ir_tree.specs.Attributes.{rattr, word, cc, comdat, attach}
+use Rattle.ir_tree.specs.Attributes.{comdat, attach}
 use Rattle.ir_tree.specs.Headers.{param, params, ftail, header}
-use Rattle.ir_tree.proofs.Looks.Test.{In}
-use Rattle.ir_tree.proofs.Clear.{Reads, pair, choice}
+use Rattle.ir_tree.proofs.Clear.{pair, choice}
 use Rattle.ir_tree.proofs.Known.{Known, leaf_of, the_of, pair_of, choice_of, optional_of, many_of, next_of, listed_of, shape_of}
 use Rattle.ir_tree.proofs.ClearTypes.{ty_of}
 use Rattle.ir_tree.proofs.ClearConstants.{tconst_of}

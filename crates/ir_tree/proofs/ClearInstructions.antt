@@ -1,5 +1,5 @@
 -- At most one instruction or terminator fits from a place up to another.
-use Rattle.std.proofs.Common.{◌≡◌, ℕ, Bool, true, false, List, [], ◌∷◌, ◌++◌, map, Option, None, Some, ◌⊎◌, inl, inr, refl}
+use Rattle.std.proofs.Common.{◌≡◌, ℕ, false, List, [], ◌∷◌, Option, Some, ◌⊎◌, inl, inr, refl}
 use Rattle.ir_tree.specs.declared.terminal.Terminal.{Terminal}
 use Rattle.ir_tree.specs.declared.terminal.Terminal.TheVariants as k
 use Rattle.ir_tree.specs.declared.types.Ty.{Ty}
@@ -17,21 +17,17 @@ use Rattle.ir_tree.specs.declared.instructions.Call.{Call}
 use Rattle.ir_tree.specs.declared.instructions.Clause.{Clause}
 use Rattle.ir_tree.specs.declared.instructions.Instr.{Instr}
 use Rattle.ir_tree.specs.declared.instructions.Instr.TheVariants as instr_is
-use Rattle.ir_tree.specs.declared.instructions.Invoke.{Invoke}
 use Rattle.ir_tree.specs.declared.instructions.Case.{Case}
 use Rattle.ir_tree.specs.declared.instructions.Term.{Term}
 use Rattle.ir_tree.specs.declared.instructions.Term.TheVariants as term_is
-use Rattle.ir_tree.specs.Steps.{Step, ◌⨾◌, the, leaf, one_of, many, some, optional, next, listed, separated, stands, where_not}
-use Rattle.ir_tree.specs.Types.{ty, ftype}
-use Rattle.ir_tree.specs.Constants.{iflag, gepflag, tconst}
+use Rattle.ir_tree.specs.Steps.{Step, ◌⨾◌, the, leaf, many, some, optional, next, listed, stands, where_not}
+use Rattle.ir_tree.specs.Types.{ty}
+use Rattle.ir_tree.specs.Constants.{iflag, gepflag}
 use Rattle.ir_tree.specs.Values.{value, tvalue}
-use Rattle.ir_tree.specs.Attributes.{rattr, word, cc}
 use Rattle.ir_tree.specs.Instructions.{binop, castop, volatile, alignment, target, arm, arg, clause, call, instr, invoke, case, term}
-use Rattle.ir_tree.proofs.Looks.{Look}
-use Rattle.ir_tree.proofs.Looks.Test.{In}
-use Rattle.ir_tree.proofs.Clear.{Reads, pair, choice, barred_reads}
+use Rattle.ir_tree.proofs.Clear.{pair, choice, barred_reads}
 use Rattle.ir_tree.proofs.Known.{Known, firsts, leaf_of, set_of, the_of, pair_of, choice_of, optional_of, many_of, some_of, next_of, listed_of, separated_of, shape_of}
-use Rattle.ir_tree.proofs.ClearTypes.{ty_of, ftype_of, ty_first}
+use Rattle.ir_tree.proofs.ClearTypes.{ty_of, ftype_of}
 use Rattle.ir_tree.proofs.ClearConstants.{iflag_of, gepflag_known, tconst_of}
 use Rattle.ir_tree.proofs.ClearValues.{value_of, tvalue_of, tvalue_reads}
 use Rattle.ir_tree.proofs.ClearAttributes.{cc_of, rattr_of, word_of}

@@ -1,28 +1,28 @@
 -- At most one type fits from a place, and types have one length.
-use Rattle.std.proofs.Common.{◌≡◌, ℕ, suc, ◌<◌, Bool, true, false, List, [], ◌∷◌, length, ◌++◌, map, Option, None, Some, ◌⊎◌, inl, inr, refl, sym, ap, ◌∙◌, subst, arith}
+use Rattle.std.proofs.Common.{◌≡◌, ℕ, ◌<◌, true, false, List, [], ◌∷◌, length, ◌++◌, map, Option, None, Some, ◌⊎◌, inl, inr, refl, sym, ap, ◌∙◌, subst, arith}
 use Rattle.ir_tree.specs.declared.terminal.Terminal.{Terminal}
 use Rattle.ir_tree.specs.declared.terminal.Terminal.TheVariants as k
 use Rattle.ir_tree.specs.declared.types.Ty.{Ty}
 use Rattle.ir_tree.specs.declared.types.Ty.TheOpen.{Ty-F}
 use Rattle.ir_tree.specs.declared.types.Ty.TheOpen.Ty-F.{Void, Int, Ptr, Array, Struct, Packed, Named}
 use Rattle.ir_tree.specs.declared.types.Ty.TheViews.{roll-Ty}
-use Rattle.ir_tree.specs.declared.types.Ty.TheFolds.{fold-Ty, fold-roll-Ty, ind-Ty, map-Ty}
+use Rattle.ir_tree.specs.declared.types.Ty.TheFolds.{fold-roll-Ty, ind-Ty, map-Ty}
 use Rattle.ir_tree.specs.declared.types.Ftype.{Ftype}
 use Rattle.ir_tree.specs.declared.types.Ftype.TheVariants.{Empty, Dots, Listed}
-use Rattle.ir_tree.specs.Steps.{Step, ◌⨾◌, the, leaf, one_of, optional, next, listed, separated}
+use Rattle.ir_tree.specs.Steps.{Step, ◌⨾◌, the, leaf, optional, next, listed, separated}
 use Rattle.ir_tree.specs.Types.{type_layer, ty, types, ftype}
 use Rattle.ir_tree.proofs.Looks.{Look}
 use Rattle.ir_tree.proofs.Looks.Test.{In}
-use Rattle.ir_tree.proofs.Clear.{Reads, Opened, pair, choice, passed, token_reads, the_reads, pair_reads, choice_reads, separated_reads, separated_map, shape_reads, everywhere}
+use Rattle.ir_tree.proofs.Clear.{Reads, pair, choice, passed, token_reads, the_reads, pair_reads, choice_reads, separated_reads, separated_map, shape_reads, everywhere}
 use Rattle.ir_tree.proofs.Known.{Known, firsts, leaf_of, the_of, pair_of, choice_of, optional_of, next_of, listed_of, shape_of}
 
 opened : (t : Ty) → (x : Ty-F Ty) × (roll-Ty x ≡ t)
 opened = ind-Ty (λ t. (x : Ty-F Ty) × (roll-Ty x ≡ t)) (λ x y is. (x, refl))
 
-abbrev Shape : Type 0
+abbrev pub Shape : Type 0
 Shape = ℕ ⊎ (ℕ ⊎ (ℕ ⊎ (ℕ ⊎ ((ℕ × (ℕ × (Unit {0} × (Ty × Unit {0})))) ⊎ ((ℕ × (List Ty × Unit {0})) ⊎ (ℕ × (Unit {0} × (List Ty × (Unit {0} × Unit {0})))))))))
 
-back : Shape → Ty
+pub back : Shape → Ty
 back (inl at) = roll-Ty (Void at)
 back (inr (inl at)) = roll-Ty (Int at)
 back (inr (inr (inl at))) = roll-Ty (Ptr at)
@@ -46,19 +46,19 @@ module _ (toks : List Terminal) where
   types_view (Dots at) a b e = (Some (inl at), (refl, e))
   types_view (Listed all dots) a b e = (Some (inr (all, dots)), (refl, e))
 
-  abbrev array : ℕ × (ℕ × (Unit {0} × (Ty × Unit {0}))) → Step
+  abbrev pub array : ℕ × (ℕ × (Unit {0} × (Ty × Unit {0}))) → Step
   array = pair (leaf toks k.LeftBracket) (pair (leaf toks k.Int) (pair (λ _. the toks k.Times) (pair (ty toks) (λ _. the toks k.RightBracket))))
 
-  abbrev struct : ℕ × (List Ty × Unit {0}) → Step
+  abbrev pub struct : ℕ × (List Ty × Unit {0}) → Step
   struct = pair (leaf toks k.LeftBrace) (pair (separated toks (ty toks)) (λ _. the toks k.RightBrace))
 
-  abbrev packed : ℕ × (Unit {0} × (List Ty × (Unit {0} × Unit {0}))) → Step
+  abbrev pub packed : ℕ × (Unit {0} × (List Ty × (Unit {0} × Unit {0}))) → Step
   packed = pair (leaf toks k.Less) (pair (λ _. the toks k.LeftBrace) (pair (separated toks (ty toks)) (pair (λ _. the toks k.RightBrace) (λ _. the toks k.Greater))))
 
-  abbrev shape : Shape → Step
+  abbrev pub shape : Shape → Step
   shape = choice (leaf toks k.Void) (choice (leaf toks k.IntType) (choice (leaf toks k.Ptr) (choice (leaf toks k.Local) (choice array (choice struct packed)))))
 
-  view : (a : ℕ) (t : Ty) (b : ℕ) → ty toks t a ≡ Some b → (x : Shape) × ((back x ≡ t) × (shape x a ≡ Some b))
+  pub view : (a : ℕ) (t : Ty) (b : ℕ) → ty toks t a ≡ Some b → (x : Shape) × ((back x ≡ t) × (shape x a ≡ Some b))
   unfolding back
   view a t b e = let o = opened t in subst (λ t. ty toks t a ≡ Some b → (x : Shape) × ((back x ≡ t) × (shape x a ≡ Some b))) o.1 (λ e. go o.0 (sym (ap (λ step. step a) (fold-roll-Ty Step (type_layer toks) o.0)) ∙ e)) e
     where

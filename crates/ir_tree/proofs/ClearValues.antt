@@ -6,7 +6,6 @@ use Rattle.ir_tree.specs.declared.types.Ty.{Ty}
 use Rattle.ir_tree.specs.declared.constants.Const as const_type
 use Rattle.ir_tree.specs.declared.values.Value.{Value}
 use Rattle.ir_tree.specs.declared.values.Value.TheVariants.{Local, Const}
-use Rattle.ir_tree.specs.declared.values.Tvalue.{Tvalue}
 use Rattle.ir_tree.specs.Steps.{leaf}
 use Rattle.ir_tree.specs.Constants.{const}
 use Rattle.ir_tree.specs.Values.{value, tvalue}
@@ -16,7 +15,7 @@ use Rattle.ir_tree.proofs.Known.{Known, firsts, leaf_of, pair_of, choice_of, sha
 use Rattle.ir_tree.proofs.ClearTypes.{ty_first, ty_of}
 use Rattle.ir_tree.proofs.ClearConstants.{const_first, const_of}
 
-abbrev value_back : ℕ ⊎ const_type.Const → Value
+abbrev pub value_back : ℕ ⊎ const_type.Const → Value
 value_back (inl at) = Local at
 value_back (inr c) = Const c
 
@@ -24,7 +23,7 @@ abbrev pub value_first : List Look
 value_first = firsts (k.Local ∷ []) ++ const_first
 
 module _ (toks : List Terminal) where
-  value_view : (t : Value) (a b : ℕ) → value toks t a ≡ Some b → (x : ℕ ⊎ const_type.Const) × ((value_back x ≡ t) × (choice (leaf toks k.Local) (const toks) x a ≡ Some b))
+  pub value_view : (t : Value) (a b : ℕ) → value toks t a ≡ Some b → (x : ℕ ⊎ const_type.Const) × ((value_back x ≡ t) × (choice (leaf toks k.Local) (const toks) x a ≡ Some b))
   value_view (Local at) a b e = (inl at, (refl, e))
   value_view (Const c) a b e = (inr c, (refl, e))
 

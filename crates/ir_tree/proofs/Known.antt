@@ -1,9 +1,9 @@
 -- The rules for putting productions together, at every place at once.
-use Rattle.std.proofs.Common.{◌≡◌, ℕ, Bool, true, false, ◌&&◌, List, [], ◌∷◌, ◌++◌, map, Option, Some, ◌⊎◌}
+use Rattle.std.proofs.Common.{◌≡◌, ℕ, Bool, true, false, ◌&&◌, List, [], ◌∷◌, ◌++◌, map, Some}
 use Rattle.ir_tree.specs.declared.terminal.Terminal.{Terminal}
 use Rattle.ir_tree.specs.declared.terminal.Terminal.TheVariants as k
-use Rattle.ir_tree.specs.Steps.{Step, the, one_of, leaf, stands, many, some, optional, next, listed, separated, where_not}
-use Rattle.ir_tree.proofs.Looks.{Test, Look, apart}
+use Rattle.ir_tree.specs.Steps.{Step, the, one_of, leaf, many, some, optional, next, listed, separated, where_not}
+use Rattle.ir_tree.proofs.Looks.{Look, apart}
 use Rattle.ir_tree.proofs.Looks.Test.{In}
 use Rattle.ir_tree.proofs.Clear.{Reads, given, pair, choice, token_reads, the_reads, pair_reads, choice_reads, optional_reads, many_reads, some_reads, next_reads, listed_reads, separated_reads, shape_reads, guarded_reads, behind_reads, token_short, the_short}
 

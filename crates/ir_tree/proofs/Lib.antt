@@ -1,11 +1,11 @@
-mod Looks
-mod Clear
-mod Known
-mod ClearTypes
-mod ClearConstants
-mod ClearAttributes
-mod ClearValues
-mod ClearInstructions
-mod ClearBlocks
-mod ClearHeaders
-mod ClearEntities
+pub mod Looks
+pub mod Clear
+pub mod Known
+pub mod ClearTypes
+pub mod ClearConstants
+pub mod ClearAttributes
+pub mod ClearValues
+pub mod ClearInstructions
+pub mod ClearBlocks
+pub mod ClearHeaders
+pub mod ClearEntities

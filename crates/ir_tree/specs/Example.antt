@@ -1,6 +1,5 @@
 -- A small module, its tokens and its tree.
 use Rattle.std.specs.Prelude.{ℕ, List, [], ◌∷◌, None, codes}
-use Rattle.attr_ids.specs.declared.insertion.Span.{Span}
 use Rattle.ir_token.specs.Bytes.{Bytes}
 use Rattle.ir_token.specs.declared.token.Kind.{Kind}
 use Rattle.ir_token.specs.declared.token.Kind.TheVariants as kind
@@ -23,8 +22,11 @@ tokens = token kind.Word 0 6 ∷ token kind.Word 7 11 ∷ token kind.Global 12 1
 
 -- its numbers are those of the tokens
 abbrev pub tree : Tree
-tree = record { entities = entity.Define (record
-  { word = 0;
+tree = record {
+  entities = entity.Define (record {
+    word = 0;
     header = record { linkage = None; words = []; cc = None; result_words = []; result = ty.Void 1; name = 2; params = params.Empty; close = 4; unnamed = None; attributes = []; tails = [] };
     body = record { first = record { label = None; lines = []; last = last.Term (term.RetVoid 6) [] [] }; blocks = [] };
-    close = 8 }) ∷ [] }
+    close = 8;
+  }) ∷ [];
+}

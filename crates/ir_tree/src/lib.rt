@@ -29,6 +29,9 @@ pub use laws::{one_tree, some_tree};
 pub use leaf::Leaf;
 pub use reserved::terminal_of;
 pub use terminal::Terminal;
-pub use words::WORDS;
 pub use types::{Ftype, Ty};
 pub use values::{Tvalue, Value};
+pub use words::WORDS;
+
+#[cfg(test)]
+mod tests;

@@ -1,4 +1,4 @@
-use Rattle.std.proofs.Common.{◌≡◌, ℕ, List, [], ◌∷◌, Some, refl, sym, ap, ◌∙◌, subst, arith}
+use Rattle.std.proofs.Common.{◌≡◌, List, [], ◌∷◌, refl, sym, ap, ◌∙◌, subst, arith}
 use Rattle.ir_tree.specs.declared.terminal.Terminal.{Terminal}
 use Rattle.ir_tree.specs.declared.terminal.Terminal.TheVariants as k
 use Rattle.ir_tree.specs.declared.types.Ty.TheVariants as ty_is
@@ -6,7 +6,6 @@ use Rattle.ir_tree.specs.declared.types.Ty.TheOpen.Ty-F.{Void}
 use Rattle.ir_tree.specs.declared.types.Ty.TheFolds.{fold-roll-Ty}
 use Rattle.ir_tree.specs.Steps.{Step, sees}
 use Rattle.ir_tree.specs.Types.{type_layer, ty}
-use Rattle.ir_tree.specs.Entities.{names_next}
 use Rattle.ir_tree.specs.Terminals.{rows, row_of, terminals}
 use Rattle.ir_tree.specs.Fits.{FitsTerminals}
 use Rattle.ir_tree.specs.Example as example
