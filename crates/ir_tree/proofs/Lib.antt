@@ -1,0 +1,11 @@
+pub mod Looks
+pub mod Clear
+pub mod Known
+pub mod ClearTypes
+pub mod ClearConstants
+pub mod ClearAttributes
+pub mod ClearValues
+pub mod ClearInstructions
+pub mod ClearBlocks
+pub mod ClearHeaders
+pub mod ClearEntities

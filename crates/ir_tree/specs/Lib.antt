@@ -1,0 +1,12 @@
+pub mod Steps
+pub mod Terminals
+pub mod Types
+pub mod Constants
+pub mod Attributes
+pub mod Values
+pub mod Instructions
+pub mod Blocks
+pub mod Headers
+pub mod Entities
+pub mod Fits
+pub mod Example
