@@ -1,0 +1,6 @@
+pub mod Places
+pub mod Steps
+pub mod Joins
+pub mod Striking
+pub mod Rooms
+pub mod Remembering
