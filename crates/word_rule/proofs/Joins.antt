@@ -41,7 +41,7 @@ at_push : (l : List View) (a b : View) (i : ℕ) → get_elem? (l ++ a ∷ []) i
 at_push [] a b zero e = inr (refl, some-injective a b e)
 at_push [] a b (suc i) e = absurd (some-ne-none b (sym e))
 at_push (x ∷ xs) a b zero e = inl e
-at_push (x ∷ xs) a b (suc i) e = elim (at_push xs a b i e) [ | inl old ↦ inl old | inr new ↦ inr (ap suc new.0, new.1) ]
+at_push (x ∷ xs) a b (suc i) e = elim (at_push xs a b i e) [ inl old ↦ inl old | inr new ↦ inr (ap suc new.0, new.1) ]
 
 -- a view was written whose core seat is the same
 same_core : (workers : ℕ) (views : List View) (i : ℕ) (v w : View) → get_elem? views i ≡ some v → w.core ≡ v.core → seats_of workers views ≡ seats_of workers (set views i w)
@@ -126,10 +126,10 @@ module _ (k : Key) (t : State (Unit {0}) View) (r : IsRuled k t) (v : View) (at 
           apart = head_is.apart;
         };
       } where
-    same_seats : seats_of k.workers t.views ≡ seats_of k.workers made_views
-    same_seats =
-        let fits : length (set t.views 0 (after_making v)) < k.workers = omega (arith, many, room) in
-        same_core k.workers t.views 0 v (after_making v) at refl ∙ sym (seats_more k.workers (set t.views 0 (after_making v)) (next_view v) fits refl)
+        same_seats : seats_of k.workers t.views ≡ seats_of k.workers made_views
+        same_seats =
+            let fits : length (set t.views 0 (after_making v)) < k.workers = omega (arith, many, room) in
+            same_core k.workers t.views 0 v (after_making v) at refl ∙ sym (seats_more k.workers (set t.views 0 (after_making v)) (next_view v) fits refl)
 
 pub splits : (k : Key) (id : ℕ) (v : View) → v.about ≡ Some k → v.number ≡ 0 → v.made < k.workers → Splits (IsRuled k) id v (after_making v) (next_view v)
 splits k id v about number room t r at =

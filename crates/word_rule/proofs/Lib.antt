@@ -4,3 +4,5 @@ pub mod Joins
 pub mod Striking
 pub mod Rooms
 pub mod Remembering
+pub mod Beginning
+pub mod Gathering

@@ -48,7 +48,7 @@ module _ (k : Key) (t : State (Unit {0}) View) (r : IsRuled k t) where
     is_live e = none-some k (ap (λ (u : View). u.about) (sym e) ∙ about)
 
     pub number_is : v.number ≡ i
-    number_is = elim (r.sit i v at) [ | inl gone ↦ absurd (is_live gone) | inr sits ↦ sits.1 ]
+    number_is = elim (r.sit i v at) [ inl gone ↦ absurd (is_live gone) | inr sits ↦ sits.1 ]
 
     pub seat_is : slice_get r.core.seats i ≡ Some v.core
     seat_is = ap (λ seats. slice_get seats i) r.seats ∙ seats_at k.workers t.views i v at
@@ -72,8 +72,7 @@ module _ (k : Key) (t : State (Unit {0}) View) (r : IsRuled k t) where
         elim (cases_eq i 0) [
           | inl here ↦
               let same : r.head ≡ v = same_at t.views 0 r.head v r.first (subst (λ j. get_elem? t.views j ≡ some v) here at) in
-              let was : IsHead k r.core.words t.views v = subst (IsHead k r.core.words t.views) same r.heads in
-              (
+              let was : IsHead k r.core.words t.views v = subst (IsHead k r.core.words t.views) same r.heads in (
                 w,
                 subst (λ j. get_elem? (set t.views i w) j ≡ some w) here (set_here t.views i w (at_inside t.views i v at)),
                 record {
@@ -84,15 +83,15 @@ module _ (k : Key) (t : State (Unit {0}) View) (r : IsRuled k t) where
                 },
               )
           | inr other ↦ (
-              r.head,
-              set_else t.views i 0 w (λ e. other (sym e)) ∙ r.first,
-              record {
-                about = r.heads.about;
-                made = r.heads.made ∙ sym long;
-                gone = All-weaker (IsGone count r.core.words t.views) (IsGone count words (set t.views i w)) (gone_kept words w others) r.head.joined r.heads.gone;
-                apart = r.heads.apart;
-              },
-            )
+            r.head,
+            set_else t.views i 0 w (λ e. other (sym e)) ∙ r.first,
+            record {
+              about = r.heads.about;
+              made = r.heads.made ∙ sym long;
+              gone = All-weaker (IsGone count r.core.words t.views) (IsGone count words (set t.views i w)) (gone_kept words w others) r.head.joined r.heads.gone;
+              apart = r.heads.apart;
+            },
+          )
         ]
 
     -- the rule once the seat has changed, and the words too
@@ -116,9 +115,9 @@ module _ (k : Key) (t : State (Unit {0}) View) (r : IsRuled k t) where
           made = (let long = length-set t.views i w in let few = r.made in omega (arith, long, few));
           sit = λ j u e. elim (at_set t.views i j w u e) [
             | inl here ↦ inr (
-                ap (λ (x : View). x.about) (sym here.1) ∙ about,
-                ap (λ (x : View). x.number) (sym here.1) ∙ number_is ∙ sym here.0,
-              )
+              ap (λ (x : View). x.about) (sym here.1) ∙ about,
+              ap (λ (x : View). x.number) (sym here.1) ∙ number_is ∙ sym here.0,
+            )
             | inr there ↦ r.sit j u there.1
           ];
           head = head.0;
@@ -168,11 +167,10 @@ takes k slots id me p about idle l t r _ at _ =
     let there = seat_is k t r id me.0 at about in
     let c : CoreSeat = after_take s p n me.0.core in
     let core : IsCore s g k.workers (written r.core p.0 (cleaned n) id c) =
-        subst (λ m. IsCore s g k.workers (written r.core p.0 (cleaned m) id (after_take s p m me.0.core))) same (take_kept s g k.workers r.few r.core r.keeps id me.0.core there p l idle) in
+    subst (λ m. IsCore s g k.workers (written r.core p.0 (cleaned m) id (after_take s p m me.0.core))) same (take_kept s g k.workers r.few r.core r.keeps id me.0.core there p l idle) in
     let counted : AreCounted s g (written r.core p.0 (cleaned n) id c) =
-        subst (λ m. AreCounted s g (written r.core p.0 (cleaned m) id (after_take s p m me.0.core))) same (take_counted s g r.graph k.workers r.core r.keeps r.counts id me.0.core there p l idle) in
-    let budget : c.took ≤ budget_of s g = each_within_budget s g (written r.core p.0 (cleaned n) id c) counted id c (entry_here r.core.seats id me.0.core c there) in
-    (
+    subst (λ m. AreCounted s g (written r.core p.0 (cleaned m) id (after_take s p m me.0.core))) same (take_counted s g r.graph k.workers r.core r.keeps r.counts id me.0.core there p l idle) in
+    let budget : c.took ≤ budget_of s g = each_within_budget s g (written r.core p.0 (cleaned n) id c) counted id c (entry_here r.core.seats id me.0.core c there) in (
       with_core me.0 c,
       keeps,
       tt,
@@ -196,10 +194,9 @@ looks k slots id me i about mode l once t r _ at _ =
     let place : (input_at (inputs_of s p.0) i).0 ≡ q = ap (λ (o : Option Key). (input_at (inputs_of (system_of o) p.0) i).0) (sym about) in
     let same : slice_index r.core.words (input_at (inputs_of s p.0) i).0 ≡ n = ap (λ x. slice_index r.core.words x) place ∙ sym (word_is k t r q l) in
     let core : IsCore s g k.workers (seated r.core id c) =
-        subst (λ m. IsCore s g k.workers (seated r.core id (after_look p looked i m me.0.core))) same (look_kept s g k.workers r.few r.core r.keeps id me.0.core there p looked i mode) in
+    subst (λ m. IsCore s g k.workers (seated r.core id (after_look p looked i m me.0.core))) same (look_kept s g k.workers r.few r.core r.keeps id me.0.core there p looked i mode) in
     let counted : AreCounted s g (seated r.core id c) =
-        subst (λ m. AreCounted s g (seated r.core id (after_look p looked i m me.0.core))) same (look_counted s g r.graph k.workers r.core r.keeps r.counts id me.0.core there p looked i mode) in
-    (
+    subst (λ m. AreCounted s g (seated r.core id (after_look p looked i m me.0.core))) same (look_counted s g r.graph k.workers r.core r.keeps r.counts id me.0.core there p looked i mode) in (
       with_core me.0 c,
       keeps,
       tt,
@@ -228,11 +225,10 @@ cuts k slots id me new about mode l all is t r _ at _ =
     let there = seat_is k t r id me.0 at about in
     let same : slice_index r.core.words p.0 ≡ n = sym (word_is k t r p.0 l) in
     let core : IsCore s g k.workers (written r.core p.0 (cut_to new n) id c) =
-        subst (λ (y : ℕ × ℕ). IsCore s g k.workers (written r.core p.0 (cut_to y.0 y.1) id (after_cut g p y.0 y.1 me.0.core))) (λ j. (given j, same j))
-        (cut_kept s g k.workers r.few r.system r.graph r.core r.keeps id me.0.core there p looked mode all) in
+    subst (λ (y : ℕ × ℕ). IsCore s g k.workers (written r.core p.0 (cut_to y.0 y.1) id (after_cut g p y.0 y.1 me.0.core))) (λ j. (given j, same j))
+    (cut_kept s g k.workers r.few r.system r.graph r.core r.keeps id me.0.core there p looked mode all) in
     let counted : AreCounted s g (written r.core p.0 (cut_to new n) id c) =
-        subst (λ m. AreCounted s g (written r.core p.0 (cut_to new m) id (after_cut g p new m me.0.core))) same (cut_counted s g r.graph k.workers r.core r.keeps r.counts id me.0.core there p looked new mode) in
-    (
+    subst (λ m. AreCounted s g (written r.core p.0 (cut_to new m) id (after_cut g p new m me.0.core))) same (cut_counted s g r.graph k.workers r.core r.keeps r.counts id me.0.core there p looked new mode) in (
       with_core me.0 c,
       keeps,
       tt,
@@ -270,14 +266,13 @@ tells k slots id me d bit about l has is t r _ at _ =
     let there = seat_is k t r id me.0 at about in
     let same : slice_index r.core.words d.0 ≡ n = sym (word_is k t r d.0 l) in
     let core : IsCore s g k.workers (written r.core d.0 (bit_or n bit) id c) =
-        subst (λ (y : ℕ × ℕ × ℕ). IsCore s g k.workers (written r.core d.0 (bit_or y.0 y.1) id (after_tell y.2 d list y.0 me.0.core)))
-        (λ j. (same j, (ap (λ x. 2 ^ (48 + x)) (sym number) ∙ sym is) j, sym number j))
-        (tell_kept s g k.workers r.few r.core r.keeps id me.0.core there d list l mode) in
+    subst (λ (y : ℕ × ℕ × ℕ). IsCore s g k.workers (written r.core d.0 (bit_or y.0 y.1) id (after_tell y.2 d list y.0 me.0.core)))
+    (λ j. (same j, (ap (λ x. 2 ^ (48 + x)) (sym number) ∙ sym is) j, sym number j))
+    (tell_kept s g k.workers r.few r.core r.keeps id me.0.core there d list l mode) in
     let counted : AreCounted s g (written r.core d.0 (bit_or n bit) id c) =
-        subst (λ (y : ℕ × ℕ × ℕ). AreCounted s g (written r.core d.0 (bit_or y.0 y.1) id (after_tell y.2 d list y.0 me.0.core)))
-        (λ j. (same j, (ap (λ x. 2 ^ (48 + x)) (sym number) ∙ sym is) j, sym number j))
-        (tell_counted s g r.graph k.workers r.core r.keeps r.counts id me.0.core there d list l mode has) in
-    (
+    subst (λ (y : ℕ × ℕ × ℕ). AreCounted s g (written r.core d.0 (bit_or y.0 y.1) id (after_tell y.2 d list y.0 me.0.core)))
+    (λ j. (same j, (ap (λ x. 2 ^ (48 + x)) (sym number) ∙ sym is) j, sym number j))
+    (tell_counted s g r.graph k.workers r.core r.keeps r.counts id me.0.core there d list l mode has) in (
       with_core me.0 c,
       keeps,
       tt,
@@ -310,8 +305,7 @@ clears k slots id me p about l t r _ at _ =
     let c : CoreSeat = clear_of me.0 p.0 n in
     let there = seat_is k t r id me.0 at about in
     let unset : (dirty_at n me.0.number == 0) ≡ true → dirty_at (slice_index r.core.words p.0) id ≡ 0 =
-        λ e. subst (λ (y : ℕ × ℕ). dirty_at y.0 y.1 ≡ 0) (λ j. (word_is k t r p.0 l j, number j)) (eqb-true (dirty_at n me.0.number) 0 e) in
-    (
+    λ e. subst (λ (y : ℕ × ℕ). dirty_at y.0 y.1 ≡ 0) (λ j. (word_is k t r p.0 l j, number j)) (eqb-true (dirty_at n me.0.number) 0 e) in (
       with_core me.0 c,
       keeps,
       tt,

@@ -2,7 +2,9 @@
 #![tactic(auto)]
 
 mod calls;
+mod closing;
 mod lists;
+mod opening;
 mod plays;
 mod seat;
 mod view;

@@ -8,6 +8,7 @@ use std::collections::LinkedList;
 use std::snapshot::Snapshot;
 
 /// What a table is about: a system, its graph, and for how many workers it was opened.
+#[derive(Drop)]
 pub struct Key {
     pub system: Snapshot<System>,
     pub graph: Snapshot<DepGraph>,

@@ -30,8 +30,7 @@ fetch_and-word-requires c =
     let system : system_of me.0.about ≡ words.system.now = system_is k me.0.about words.system.now c.requires.of.1 words.about_system in
     let here : c.in-Some.p.0 < length words.system.now.masks = inside_of k me.0.about words.system.now c.in-Some.p.0 c.requires.of.1 words.about_system (seat.places c.in-Some.p c.in-Some.is) in
     let inside : (opened me.0.core.mode).0 < length k.system.value.masks = subst (λ (y : PosId × System). y.0.0 < length y.1.masks) (λ j. (at j, sym words.about_system j)) here in
-    let value = c.requires.value ∙ ap (λ (s : System). value_at s (opened me.0.core.mode).0 (values_of (looked_in me.0.core.mode))) (sym system) in
-    (
+    let value = c.requires.value ∙ ap (λ (s : System). value_at s (opened me.0.core.mode).0 (values_of (looked_in me.0.core.mode))) (sym system) in (
       c.requires.of.0,
       (let sized = words.sized in omega (arith, sized, here)),
       subst (λ (q : PosId). Allows (IsRuled k) words.table.shared.table_id.slots seat.seat.id me q.0 (λ n. bit_and n (bit_or c.args.new (2 ^ 64 - 2 ^ 47))) (λ n after. Cuts me n after)) (sym at)
@@ -71,7 +70,7 @@ invariant_of-seat-clause-owes c =
     let rows : words.graph.now ≡ rows_of me.0.about = sym (rows_are k me.0.about words.graph.now c.requires.of.1 words.about_graph) in
     let value : c.args.new ≡ new_facts me.0 = c.requires.value ∙ ap (λ (s : System). value_at s (opened me.0.core.mode).0 (values_of (looked_in me.0.core.mode))) (sym system) in
     let owed : owed_by words.graph.now c.in-Some.p.0 (lost_by c.args.new word) ≡ owed_by (rows_of me.0.about) (opened me.0.core.mode).0 (lost_by (new_facts me.0) word) =
-        λ j. owed_by (rows j) (at j).0 (lost_by (value j) word) in
+    λ j. owed_by (rows j) (at j).0 (lost_by (value j) word) in
     c.owe.ensures.items ∙ owed ∙ sym (ap (λ (v : View). owed_in v.core.mode) c.fetch_and-word.ensures.2.seat.view ∙ owing_owed (owed_by (rows_of me.0.about) (opened me.0.core.mode).0 (lost_by (new_facts me.0) word)))
 
 pub invariant_of-seat-clause-debts : goal.invariant_of-seat-clause-debts

@@ -40,9 +40,8 @@ load-word-requires c =
     let there : (input_at (inputs_at me.0) i).0 ≡ (input_at c.as_slice.result.now i).0 = ap (λ (ps : List PosId). (input_at ps i).0) list in
     let inside : i < length (inputs_at me.0) = subst (λ (s : System). i < length (inputs_of s (opened me.0.core.mode).0)) (sym system) c.requires.input in
     let small : (input_at (inputs_at me.0) i).0 < length k.system.value.masks =
-        subst (λ (s : System). (input_at (inputs_of s (opened me.0.core.mode).0) i).0 < length k.system.value.masks) (sym system)
-        (subst (λ (s : System). (input_at (inputs_of words.system.now (opened me.0.core.mode).0) i).0 < length s.masks) (sym words.about_system) (words.inner (opened me.0.core.mode).0 i c.requires.input)) in
-    (
+    subst (λ (s : System). (input_at (inputs_of s (opened me.0.core.mode).0) i).0 < length k.system.value.masks) (sym system)
+    (subst (λ (s : System). (input_at (inputs_of words.system.now (opened me.0.core.mode).0) i).0 < length s.masks) (sym words.about_system) (words.inner (opened me.0.core.mode).0 i c.requires.input)) in (
       c.requires.of.0,
       (let sized = words.sized in let l = small in let same = ap (λ (s : System). length s.masks) words.about_system in omega (arith, sized, l, same, there)),
       subst (λ q. Allows (IsRuled k) words.table.shared.table_id.slots seat.seat.id me q (λ n. n) (λ n new. Looks q me n new)) there
@@ -57,7 +56,7 @@ index_mut-requires c =
     let at : c.in-Some.p ≡ opened mode = place_open mode seat.place c.in-Some.p c.in-Some.is seat.opens c.requires.open in
     let system = system_is words.table.shared.key seat.seat.me.0.about words.system.now c.requires.of.1 words.about_system in
     let width : length seat.looked.items ≡ length (inputs_of words.system.now (opened mode).0) =
-        seat.width c.in-Some.p c.in-Some.is ∙ width_is seat.seat.me.0.about c.in-Some.p ∙ (λ j. length (inputs_of (system j) (at j).0)) in
+    seat.width c.in-Some.p c.in-Some.is ∙ width_is seat.seat.me.0.about c.in-Some.p ∙ (λ j. length (inputs_of (system j) (at j).0)) in
     omega (arith, width, c.requires.input, seat.looked.ok.0)
 
 pub invariant_of-seat-clause-looks : goal.invariant_of-seat-clause-looks
@@ -66,7 +65,7 @@ invariant_of-seat-clause-looks c =
     let seat = c.args.seat.now in
     let facts : ℕ = bit_and c.load-word.result 140737488355327 in
     let became = looked_became words.table.shared.key words.system.now seat.seat.me c.load-word.new.seat.me c.args.i c.load-word.result seat.place c.in-Some.p c.as_slice.result.now
-        c.requires.of.1 words.about_system c.in-Some.is seat.opens c.requires.open c.requires.input (c.as_slice.ensures ∙ c.inputs.ensures) c.load-word.ensures.2 in
+    c.requires.of.1 words.about_system c.in-Some.is seat.opens c.requires.open c.requires.input (c.as_slice.ensures ∙ c.inputs.ensures) c.load-word.ensures.2 in
     ap (λ xs. set xs c.args.i facts) seat.looks ∙ sym (values_set (looked_in seat.seat.me.0.core.mode) c.args.i facts) ∙ sym (ap (λ (v : View). values_of (looked_in v.core.mode)) became.view)
 
 pub invariant_of-seat-clause-width : goal.invariant_of-seat-clause-width
@@ -74,5 +73,5 @@ invariant_of-seat-clause-width c = λ q e.
     let words = c.args.self.now in
     let seat = c.args.seat.now in
     let became = looked_became words.table.shared.key words.system.now seat.seat.me c.load-word.new.seat.me c.args.i c.load-word.result seat.place c.in-Some.p c.as_slice.result.now
-        c.requires.of.1 words.about_system c.in-Some.is seat.opens c.requires.open c.requires.input (c.as_slice.ensures ∙ c.inputs.ensures) c.load-word.ensures.2 in
+    c.requires.of.1 words.about_system c.in-Some.is seat.opens c.requires.open c.requires.input (c.as_slice.ensures ∙ c.inputs.ensures) c.load-word.ensures.2 in
     length-set seat.looked.items c.args.i (bit_and c.load-word.result 140737488355327) ∙ seat.width q e ∙ sym (ap (λ (v : View). input_count v.about q) became.view)
