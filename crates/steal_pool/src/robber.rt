@@ -56,6 +56,13 @@ impl Robber {
     ghost use Rattle.std.specs.Prelude.{◌≡◌, ◌<◌, length};
     ghost use Rattle.steal_pool.specs.Pools.{Robs, robber_logs, robber_deques};
 
+    /// How many pools it robs.
+    pub fn pool_count(&self) -> usize
+        ensures { result ≡ length (robber_logs self.now) }
+    {
+        self.doors.len()
+    }
+
     /// Tries once to take the first position of the pool of the worker `from`.
     pub fn rob(&mut self, from: u8) -> Robbed
         requires { from < length (robber_logs self.old) }
