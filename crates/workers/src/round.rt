@@ -1,6 +1,6 @@
 //! One round: hints of the worker's own pool, one try at each other pool, and where none of these named a dirty
 //! word, all words.
-ghost use Rattle.std.specs.Prelude.{◌≡◌, ◌<◌, ◌≤◌};
+ghost use Rattle.std.specs.Prelude.{◌≡◌, ◌++◌, ◌∷◌, ◌<◌, ◌≤◌, [], MatchBool};
 ghost use Rattle.rule_terms.specs.System.{IsSystem};
 ghost use Rattle.word_rule.specs.Belongs.{core_of, system_in, workers_in, KnowsAll};
 ghost use Rattle.workers.specs.Workers.{count_in, IsReady, IsPoolOf, IsRobberOf, HasTaken};
@@ -77,6 +77,28 @@ fn rob_pools<G: Gate>(
     taken
 }
 
+/// Takes the position up if the seat's own dirty bit is set in its word, and does the turn of this number with it.
+/// Answers whether it did. Where it did not, the seat knows the position, and all that it knew.
+fn visit<G: Gate>(
+    shift: &Shift<G>,
+    seat: &mut WorkerSeat,
+    own: &mut OwnPool,
+    p: PosId,
+    number: u64,
+) -> bool
+    requires system { IsSystem (system_in shift.now.words.now) }
+    requires ready { IsReady shift.now.words.now seat.old }
+    requires position { p.0 < count_in shift.now.words.now }
+    requires pool { IsPoolOf (count_in shift.now.words.now) own.old }
+    ensures taken { MatchBool result (HasTaken seat.old seat.new 0 1) (HasTaken seat.old seat.new 0 0 × ((core_of seat.new).known ≡ (core_of seat.old).known ++ p ∷ [])) }
+    ensures pool { IsPoolOf (count_in shift.now.words.now) own.new }
+{
+    if shift.words.clear(seat, p) {
+        return false;
+    }
+    attempt(shift, seat, own, p, number)
+}
+
 /// Looks through all words for the seat's own dirty bits, and takes up the words that have one. Where there was
 /// none, the seat knows every position.
 fn scan<G: Gate>(
@@ -97,8 +119,7 @@ fn scan<G: Gate>(
         if taken == shift.turns {
             break;
         }
-        let p = PosId(p);
-        if !shift.words.clear(seat, p) && attempt(shift, seat, own, p, taken + 1) {
+        if visit(shift, seat, own, PosId(p), taken + 1) {
             taken += 1;
         }
     }
