@@ -1,8 +1,7 @@
 //! One round: hints of the worker's own pool, one try at each other pool, and where none of these named a dirty
 //! word, all words.
 ghost use Rattle.std.specs.Prelude.{◌≡◌, ◌++◌, ◌∷◌, ◌<◌, ◌≤◌, [], MatchBool};
-ghost use Rattle.rule_terms.specs.System.{IsSystem};
-ghost use Rattle.word_rule.specs.Belongs.{core_of, system_in, workers_in, KnowsAll};
+ghost use Rattle.word_rule.specs.Belongs.{core_of, workers_in, KnowsAll};
 ghost use Rattle.workers.specs.Workers.{count_in, IsReady, IsPoolOf, IsRobberOf, HasTaken};
 
 use crate::turn::{Shift, attempt};
@@ -22,7 +21,6 @@ fn draw_hints<G: Gate>(
     own: &mut OwnPool,
     mut taken: u64,
 ) -> u64
-    requires system { IsSystem (system_in shift.now.words.now) }
     requires ready { IsReady shift.now.words.now seat.old }
     requires pool { IsPoolOf (count_in shift.now.words.now) own.old }
     requires turns { taken ≤ shift.now.turns }
@@ -50,7 +48,6 @@ fn rob_pools<G: Gate>(
     robber: &mut Robber,
     mut taken: u64,
 ) -> u64
-    requires system { IsSystem (system_in shift.now.words.now) }
     requires ready { IsReady shift.now.words.now seat.old }
     requires pool { IsPoolOf (count_in shift.now.words.now) own.old }
     requires robber { IsRobberOf (workers_in shift.now.words.now) (count_in shift.now.words.now) robber.old }
@@ -86,7 +83,6 @@ fn visit<G: Gate>(
     p: PosId,
     number: u64,
 ) -> bool
-    requires system { IsSystem (system_in shift.now.words.now) }
     requires ready { IsReady shift.now.words.now seat.old }
     requires position { p.0 < count_in shift.now.words.now }
     requires pool { IsPoolOf (count_in shift.now.words.now) own.old }
@@ -115,7 +111,7 @@ fn scan<G: Gate>(
     ensures known { result ≡ taken → KnowsAll (count_in shift.now.words.now) (core_of seat.new) }
     ensures pool { IsPoolOf (count_in shift.now.words.now) own.new }
 {
-    for p in 0..shift.words.system().count() {
+    for p in 0..shift.count {
         if taken == shift.turns {
             break;
         }
@@ -134,7 +130,6 @@ pub(crate) fn round<G: Gate>(
     robber: &mut Robber,
     taken: u64,
 ) -> u64
-    requires system { IsSystem (system_in shift.now.words.now) }
     requires ready { IsReady shift.now.words.now seat.old }
     requires pool { IsPoolOf (count_in shift.now.words.now) own.old }
     requires robber { IsRobberOf (workers_in shift.now.words.now) (count_in shift.now.words.now) robber.old }

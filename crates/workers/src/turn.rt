@@ -19,6 +19,9 @@ pub(crate) struct Shift<'a, 's, G> {
     pub worker: u8,
     pub turns: u64,
     pub gate: &'a G,
+    pub count: u32,
+    ghost counted: { count ≡ count_in words.now },
+    ghost system: { IsSystem (system_in words.now) },
 }
 
 /// Looks at every input of the open position.
@@ -63,7 +66,6 @@ fn turn<G: Gate>(
     p: PosId,
     number: u64,
 )
-    requires system { IsSystem (system_in shift.now.words.now) }
     requires of { IsSeatOf shift.now.words.now seat.old }
     requires position { p.0 < count_in shift.now.words.now }
     requires open { HasOpen (system_in shift.now.words.now) p (core_of seat.old) }
@@ -89,7 +91,6 @@ pub(crate) fn attempt<G: Gate>(
     p: PosId,
     number: u64,
 ) -> bool
-    requires system { IsSystem (system_in shift.now.words.now) }
     requires ready { IsReady shift.now.words.now seat.old }
     requires position { p.0 < count_in shift.now.words.now }
     requires pool { IsPoolOf (count_in shift.now.words.now) own.old }

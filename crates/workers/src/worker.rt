@@ -37,6 +37,7 @@ pub fn run_worker<G: Gate>(
         worker,
         turns,
         gate,
+        count: words.system().count(),
     };
     let mut taken = 0;
     while taken < turns {
