@@ -57,6 +57,13 @@ impl Robber {
     ghost use Rattle.steal_pool.specs.Hints.{IsBelow};
     ghost use Rattle.steal_pool.specs.Pools.{Robs, IsRobberOf, IfGot, robber_logs, robber_deques};
 
+    /// How many pools it robs.
+    pub fn pool_count(&self) -> usize
+        ensures { result ≡ length (robber_logs self.now) }
+    {
+        self.doors.len()
+    }
+
     /// Tries once to take the first position of the pool of the worker `from`.
     pub fn rob(&mut self, from: u8) -> Robbed
         requires { from < length (robber_logs self.old) }

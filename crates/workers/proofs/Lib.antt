@@ -1,0 +1,4 @@
+pub mod Seating
+pub mod Looking
+pub mod Telling
+pub mod Knowing

@@ -1,0 +1,27 @@
+use Rattle.std.proofs.Common.{◌≡◌, ◌<◌, ap, sym, ◌∙◌, subst, arith}
+use Rattle.word_rule.specs.Views.{owed_in}
+use Rattle.word_rule.specs.Belongs.{core_of, number_of, IsSeatOf}
+use Rattle.workers.specs.Workers.{count_in}
+use Rattle.workers.proofs.Seating.{seat_again}
+use Rattle.workers.proofs.Telling.{first_owed, owed_inside, owes_less}
+use Rattle.workers.proofs.turn.tell_all.Goals as goal
+
+pub give-requires : goal.give-requires
+give-requires c =
+    let words = c.args.words.now in
+    let d = c.in-Some.d in
+    let of : IsSeatOf words c.loop-d.seat = seat_again words c.args.seat.now c.loop-d.seat c.loop-d.invariant.0 c.requires.of in
+    let has = first_owed (owed_in (core_of c.loop-d.seat).mode) d (sym c.owed.ensures ∙ c.in-Some.is) in
+    subst (λ n. d.0 < n) (sym c.loop-d.invariant.3) (owed_inside words c.loop-d.seat d of has)
+
+pub loop-d-smaller-then-tell : goal.loop-d-smaller-then-tell
+loop-d-smaller-then-tell c =
+    let old = core_of c.loop-d.seat in
+    let has = first_owed (owed_in old.mode) c.in-Some.d (sym c.owed.ensures ∙ c.in-Some.is) in
+    owes_less (number_of c.loop-d.seat) c.in-Some.d c.tell.ensures.told.0 old (core_of c.tell.new.seat) has c.tell.ensures.told.1
+
+pub loop-d-smaller : goal.loop-d-smaller
+loop-d-smaller c =
+    let old = core_of c.loop-d.seat in
+    let has = first_owed (owed_in old.mode) c.in-Some.d (sym c.owed.ensures ∙ c.in-Some.is) in
+    owes_less (number_of c.loop-d.seat) c.in-Some.d c.tell.ensures.told.0 old (core_of c.tell.new.seat) has c.tell.ensures.told.1

@@ -1,0 +1,51 @@
+ghost use Rattle.std.specs.Prelude.{◌≡◌, ◌<◌, ◌+◌, ◌↔◌};
+ghost use Rattle.attr_ids.specs.declared.status.WorkerEnd.TheVariants.{Done, Spent};
+ghost use Rattle.fix_core.specs.declared.state.CoreMode.TheVariants.{Idle};
+ghost use Rattle.word_rule.specs.Belongs.{core_of, workers_in, IsSameSeat, KnowsAll};
+ghost use Rattle.workers.specs.Workers.{count_in, IsReady, IsPoolOf, IsRobberOf};
+
+use crate::round::round;
+use crate::turn::Shift;
+use attr_ids::WorkerEnd;
+use attr_io::Gate;
+use steal_pool::{OwnPool, Robber};
+use word_rule::{LatticeWords, WorkerSeat};
+
+/// Goes round after round until a round takes no dirty word up, and does at most so many turns.
+pub fn run_worker<G: Gate>(
+    words: &LatticeWords,
+    seat: &mut WorkerSeat,
+    own: &mut OwnPool,
+    robber: &mut Robber,
+    worker: u8,
+    turns: u64,
+    gate: &G,
+) -> WorkerEnd
+    requires ready { IsReady words.now seat.old }
+    requires pool { IsPoolOf (count_in words.now) own.old }
+    requires robber { IsRobberOf (workers_in words.now) (count_in words.now) robber.old }
+    ensures same { IsSameSeat seat.old seat.new }
+    ensures idle { (core_of seat.new).mode ≡ Idle }
+    ensures spent { (result ≡ Spent) ↔ ((core_of seat.new).took ≡ (core_of seat.old).took + turns) }
+    ensures done { (result ≡ Done) ↔ ((core_of seat.new).took < (core_of seat.old).took + turns) }
+    ensures known { result ≡ Done → KnowsAll (count_in words.now) (core_of seat.new) }
+    ensures pool { IsPoolOf (count_in words.now) own.new }
+    ensures robber { IsRobberOf (workers_in words.now) (count_in words.now) robber.new }
+{
+    let shift = Shift {
+        words,
+        worker,
+        turns,
+        gate,
+        count: words.system().count(),
+    };
+    let mut taken = 0;
+    while taken < turns {
+        let before = taken;
+        taken = round(&shift, seat, own, robber, taken);
+        if taken == before {
+            return WorkerEnd::Done;
+        }
+    }
+    WorkerEnd::Spent
+}
