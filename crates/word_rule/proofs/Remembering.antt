@@ -50,7 +50,7 @@ owing_looked (d ∷ ds) = refl
 
 -- a seat that looked at an input by its number
 pub looked_became : (k : Key) (s : System) (old new : Mine) (i word : ℕ) (place : Option PosId) (p : PosId) (list : List PosId) → old.0.about ≡ Some k → k.system.value ≡ s → place ≡ Some p → place ≡ place_in old.0.core.mode →
-    old.0.core.mode ≡ Open (opened old.0.core.mode) (looked_in old.0.core.mode) → i < length (inputs_of s (opened old.0.core.mode).0) → list ≡ inputs_of s p.0 → Looks (input_at list i).0 old word new → Becomes old (look_of old.0 i word) new
+    old.0.core.mode ≡ Open (opened old.0.core.mode) (looked_in old.0.core.mode) → i < length (inputs_of s (opened old.0.core.mode).0) → list ≡ inputs_of s p.0 → Looks (input_at list i).0 old word new → Becomes old word (look_of old.0 i word) new
 looked_became k s old new i word place p list is system some_place kept mode l are looks =
     let at : p ≡ opened old.0.core.mode = place_open old.0.core.mode place p some_place kept mode in
     let same : system_of old.0.about ≡ s = system_is k old.0.about s is system in
