@@ -2,3 +2,4 @@ pub mod Seating
 pub mod Looking
 pub mod Telling
 pub mod Knowing
+pub mod Moving

@@ -5,8 +5,11 @@
 //! is spent has used up its turns.
 #![tactic(auto)]
 
+mod crew;
 mod round;
+mod run;
 mod turn;
 mod worker;
 
+pub use run::{Ran, run_all};
 pub use worker::run_worker;
