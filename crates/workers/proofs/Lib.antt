@@ -3,3 +3,4 @@ pub mod Looking
 pub mod Telling
 pub mod Knowing
 pub mod Moving
+pub mod Crewing
