@@ -1,5 +1,5 @@
 -- A text is at least as long as the tokens that it is written with are many, so it has few headers and calls.
-use Rattle.std.proofs.Common.{◌≡◌, ℕ, suc, ◌+◌, ◌*◌, ◌≤◌, Bool, true, false, List, [], ◌∷◌, ◌++◌, length, map, Option, None, Some, ap, sym, ◌∙◌, arith, length-append}
+use Rattle.std.proofs.Common.{ℕ, ◌+◌, ◌*◌, ◌≤◌, List, [], ◌∷◌, ◌++◌, length, Option, None, Some, ap, arith, length-append}
 use Rattle.std.specs.List.{flat_map}
 use Rattle.std.proofs.lemmas.List.{length-map}
 use Rattle.slice_text.specs.declared.token.Symbol.TheVariants as symbol
@@ -8,7 +8,7 @@ use Rattle.slice_text.specs.declared.entity.Mention.{Mention}
 use Rattle.slice_text.specs.declared.entity.Body.{Body}
 use Rattle.slice_text.specs.declared.entity.Entity.{Entity}
 use Rattle.slice_text.specs.Tokens.{Reaches, past_gap}
-use Rattle.slice_text.specs.Entities.{Leaf, Mark, leaf_of, word_leaves, mention_leaves, call_leaves, block_leaves, linkage_leaves, written, entity_leaves, Reads}
+use Rattle.slice_text.specs.Entities.{Mark, leaf_of, word_leaves, mention_leaves, call_leaves, block_leaves, linkage_leaves, written, entity_leaves, Reads}
 use Rattle.slice_text.specs.Places.{calls_of, mentions}
 
 gap_moves : (b : List ℕ) (i : ℕ) → i ≤ past_gap b i
@@ -28,8 +28,13 @@ calls_long (c ∷ cs) = omega (arith, calls_long cs, length-append (word_leaves 
 written_long : (h : Mention) (b : Option Body) → 4 * length (h ∷ calls_of b) ≤ length (written h b)
 written_long h None = omega arith
 written_long h (Some b) =
-    omega (arith, calls_long b.calls, length-append (linkage_leaves b.internal) (mention_leaves h ++ block_leaves b.calls),
-    length-append (word_leaves h.nounwind) (block_leaves b.calls), length-append (flat_map call_leaves b.calls) (Mark symbol.Ret ∷ Mark symbol.Void ∷ Mark symbol.RightBrace ∷ []))
+    omega (
+      arith,
+      calls_long b.calls,
+      length-append (linkage_leaves b.internal) (mention_leaves h ++ block_leaves b.calls),
+      length-append (word_leaves h.nounwind) (block_leaves b.calls),
+      length-append (flat_map call_leaves b.calls) (Mark symbol.Ret ∷ Mark symbol.Void ∷ Mark symbol.RightBrace ∷ []),
+    )
 
 entities_long : (es : List Entity) → 4 * length (flat_map mentions es) ≤ length (flat_map entity_leaves es)
 entities_long [] = omega arith

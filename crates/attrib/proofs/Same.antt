@@ -1,12 +1,10 @@
 -- The facts by functions and calls are the facts of the resolved module.
-use Rattle.std.proofs.Common.{◌≡◌, ℕ, zero, suc, ◌+◌, ◌<◌, ◌≤◌, ◌==◌, ◌||◌, not, Bool, true, false, if◌then◌else◌, inl, inr, List, [], ◌∷◌, length, All, slice_get, Option, None, Some, refl, sym, ap, subst, ◌∙◌, arith}
+use Rattle.std.proofs.Common.{◌≡◌, ℕ, ◌+◌, ◌==◌, ◌||◌, not, Bool, true, false, if◌then◌else◌, inl, inr, All, slice_get, Option, None, Some, refl, sym, ap, subst, ◌∙◌, arith}
 use Rattle.std.specs.Option.{option_map, is_some}
 use Rattle.std.proofs.Common.{get_or}
-use Rattle.std.proofs.lemmas.Option.{slice_get-get_or, slice_get_within, get_or_from_slice_get}
+use Rattle.std.proofs.lemmas.Option.{slice_get-get_or, slice_get_within}
 use Rattle.std.proofs.lemmas.Bool.Decides.{eqb_tells}
 use Rattle.lattice_words.specs.declared.function.TheConstants.{NOUNWIND}
-use Rattle.ir_module.specs.declared.op.Op.{Op}
-use Rattle.ir_module.specs.declared.op.Op.TheVariants as op
 use Rattle.ir_module.specs.declared.op.Operand.TheVariants as operand
 use Rattle.ir_module.specs.declared.op.Instr.{Instr}
 use Rattle.ir_module.specs.declared.module.Seg.{Seg}
@@ -21,8 +19,8 @@ use Rattle.slice_module.specs.declared.module.Call.{Call}
 use Rattle.slice_module.specs.declared.module.Block.{Block}
 use Rattle.slice_module.specs.declared.module.Func.{Func}
 use Rattle.slice_module.specs.declared.module.Module.{Module}
-use Rattle.slice_module.specs.Module.{calls_of, block_calls}
-use Rattle.slice_module.specs.Tables.{op_of, segment, block_count_of, entry_at, block_segs, entries_from, runs_from, segs_from, resolved}
+use Rattle.slice_module.specs.Module.{block_calls}
+use Rattle.slice_module.specs.Tables.{op_of, segment, block_count_of, entry_at, segs_from, resolved}
 use Rattle.slice_module.proofs.Tables.{block_at, seg_at, entry_of_func, run_of, run_of_func, seg_of_func, call_shape}
 use Rattle.slice_module.proofs.Formed.{all_at, There, there, block_there, one_instr}
 use Rattle.slice_facts.specs.Facts as written

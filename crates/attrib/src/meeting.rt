@@ -15,8 +15,9 @@ fn ring(alloc: Global, functions: u32) -> Result<Text, Fail> {
     let mut text = String::new(alloc);
     for i in 0..functions {
         let next = if i + 1 == functions { 0 } else { i + 1 };
-        let function =
-            format!(in alloc; "define void @f{i}() {{ call void @f{next}() ret void }}")?;
+        let function = format!(in alloc;
+            "define void @f{i}() {{ call void @f{next}() ret void }}"
+        )?;
         text.push_str(&function)?;
     }
     Ok(Text::from_vec(text.into_bytes()))

@@ -1,4 +1,4 @@
-use Rattle.std.proofs.Common.{◌≤◌, Err, ap, ◌∙◌, arith}
+use Rattle.std.proofs.Common.{Err, ap, ◌∙◌, arith}
 use Rattle.dep_graph.specs.Graph.{edges_of}
 use Rattle.attrib.proofs.Edges.{edges_mentioned}
 use Rattle.attrib.proofs.deduce.graph.Goals as goal
