@@ -21,13 +21,15 @@ number_of seat = seat.seat.me.0.number
 abbrev pub found_by : WorkerSeat → ℕ
 found_by seat = seat.seat.me.0.found
 
--- the system of a table, its graph, and for how many workers it was opened
+-- the system of a table
 abbrev pub system_in : LatticeWords → System
 system_in words = words.system.now
 
+-- the rows of its graph
 abbrev pub graph_in : LatticeWords → List Row
 graph_in words = words.graph.now
 
+-- for how many workers it was opened
 abbrev pub workers_in : LatticeWords → ℕ
 workers_in words = words.table.shared.key.workers
 

@@ -54,5 +54,6 @@ pub record Tells (d : ℕ) (old : Mine) (word : ℕ) (new : Mine) : Type 0 where
 abbrev pub clear_of : View → ℕ → ℕ → CoreSeat
 clear_of v p word = if dirty_at word v.number == 0 then after_clear (position p) v.core else v.core
 
+-- the seat came to know the position, or nothing more
 pub record Clears (p : ℕ) (old : Mine) (word : ℕ) (new : Mine) : Type 0 where
   pub seat : Becomes old word (clear_of old.0 p word) new

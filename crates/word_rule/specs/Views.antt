@@ -12,14 +12,16 @@ use Rattle.word_rule.specs.declared.view.Key.{Key}
 use Rattle.word_rule.specs.declared.view.Joined.{Joined}
 use Rattle.word_rule.specs.declared.view.View.{View}
 
+-- the position of a number
 abbrev pub position : ℕ → PosId
 position p = record { 0 = p }
 
--- the system of a table, and its graph
+-- the system of a table, and an empty one where there is no table
 abbrev pub system_of : Option Key → System
 system_of None = with_masks []
 system_of (Some k) = k.system.value
 
+-- the rows of its graph
 abbrev pub rows_of : Option Key → List Row
 rows_of None = []
 rows_of (Some k) = k.graph.value
