@@ -1,13 +1,11 @@
 -- What a seat's memory has of its view, after each event.
-use Rattle.std.proofs.Common.{◌≡◌, ℕ, zero, suc, ◌+◌, ◌*◌, ◌%◌, ◌^◌, ◌<◌, ◌≤◌, Bool, true, false, if◌then◌else◌, List, [], ◌∷◌, length, set, replicate, Option, Some, None, Contains, refl, ap, sym, ◌∙◌, subst, arith}
+use Rattle.std.proofs.Common.{◌≡◌, ℕ, zero, suc, ◌+◌, ◌*◌, ◌%◌, ◌^◌, ◌<◌, false, if◌then◌else◌, List, [], ◌∷◌, length, set, replicate, Option, Some, None, refl, ap, sym, ◌∙◌, subst, arith}
 use Rattle.std.proofs.Math.Pow.{pow-lt}
 use Rattle.attr_ids.specs.declared.ids.PosId.{PosId}
 use Rattle.rule_terms.specs.Slots.{input_at}
 use Rattle.rule_terms.specs.System.{System, inputs_of}
-use Rattle.dep_graph.specs.declared.graph.Row.{Row}
 use Rattle.fix_core.specs.declared.state.CoreSeat.{CoreSeat}
-use Rattle.fix_core.specs.declared.state.CoreMode.{CoreMode}
-use Rattle.fix_core.specs.declared.state.CoreMode.TheVariants.{Idle, Open, Owes}
+use Rattle.fix_core.specs.declared.state.CoreMode.TheVariants.{Idle, Open}
 use Rattle.fix_core.specs.Machine.{is_clean, values_of, owing, after_take}
 use Rattle.word_rule.specs.declared.view.Key.{Key}
 use Rattle.word_rule.specs.Plays.{Mine, Becomes, Looks, look_of, inputs_at}

@@ -1,14 +1,14 @@
 -- Each kind of step keeps the rule of the table, by the law of the core machine for its event.
-use Rattle.std.proofs.Common.{◌≡◌, ◌≢◌, ℕ, zero, suc, ◌+◌, ◌-◌, ◌==◌, ◌^◌, ◌<◌, ◌≤◌, Bool, true, false, if◌then◌else◌, eqb, eqb-true, List, [], ◌∷◌, ◌++◌, map, length, replicate, set, slice_index, slice_get, Option, Some, None, All, Contains, bit_and, bit_or, refl, ap, sym, ◌∙◌, subst, arith, inl, inr}
-use mathlib.Core.Option.{none, some, some-injective}
+use Rattle.std.proofs.Common.{◌≡◌, ◌≢◌, ℕ, zero, suc, ◌+◌, ◌-◌, ◌==◌, ◌^◌, ◌<◌, ◌≤◌, Bool, true, false, if◌then◌else◌, eqb-true, List, [], ◌∷◌, ◌++◌, length, set, slice_index, slice_get, Option, Some, Contains, bit_and, bit_or, refl, ap, sym, ◌∙◌, subst, arith, inl, inr}
+use mathlib.Core.Option.{some}
 use lib.ListN.{get_elem?}
 use Rattle.std.proofs.lemmas.Bool.{cases_eq}
 use Rattle.std.proofs.lemmas.List.{length-set, set-append_left, get_or_append_left, set-get_or}
 use Rattle.std.proofs.lemmas.List.Elements.{All-weaker}
 use Rattle.std.proofs.lemmas.Nat.Bits.{bit_at_and}
 use Rattle.std.proofs.lemmas.Option.{none-some, same_Some}
-use Rattle.atomic_table.specs.Table.{State, Me, Allows, keeps}
-use Rattle.atomic_table.proofs.Lists.{at_set, set_here, set_else, set_again}
+use Rattle.atomic_table.specs.Table.{State, Allows, keeps}
+use Rattle.atomic_table.proofs.Lists.{at_set, set_here, set_else}
 use Rattle.attr_ids.specs.declared.ids.PosId.{PosId}
 use Rattle.rule_terms.specs.Slots.{input_at}
 use Rattle.rule_terms.specs.System.{System, inputs_of, value_at}
@@ -18,10 +18,10 @@ use Rattle.fix_core.specs.declared.state.CoreState.{CoreState}
 use Rattle.fix_core.specs.declared.state.CoreSeat.{CoreSeat}
 use Rattle.fix_core.specs.declared.state.CoreMode.{CoreMode}
 use Rattle.fix_core.specs.declared.state.CoreMode.TheVariants.{Idle, Open, Owes}
-use Rattle.fix_core.specs.Machine.{dirty_at, cleaned, dirtied, cut_to, values_of, has_all, written, seated, after_take, after_look, after_cut, after_tell, after_clear}
+use Rattle.fix_core.specs.Machine.{dirty_at, cleaned, cut_to, values_of, has_all, written, seated, after_take, after_look, after_cut, after_tell, after_clear}
 use Rattle.fix_core.specs.Invariant.{IsMode, AreOwed, IsCore}
 use Rattle.fix_core.specs.Counts.{AreCounted}
-use Rattle.fix_core.proofs.Words.{cleaned_clean, dirtied_other, cut_dirty, word_after}
+use Rattle.fix_core.proofs.Words.{cleaned_clean, dirtied_other, word_after}
 use Rattle.fix_core.proofs.Joining.{owed_inside}
 use Rattle.fix_core.proofs.Cutting.{cut_kept}
 use Rattle.fix_core.proofs.Written.{entry_here}
@@ -30,9 +30,9 @@ use Rattle.fix_core.proofs.Counting.{take_counted, look_counted, cut_counted, te
 use Rattle.word_rule.specs.declared.view.Key.{Key}
 use Rattle.word_rule.specs.declared.view.Joined.{Joined}
 use Rattle.word_rule.specs.declared.view.View.{View}
-use Rattle.word_rule.specs.Views.{position, system_of, rows_of, opened, looked_in, owed_in, stepped_to, spent}
-use Rattle.word_rule.specs.Rule.{seats_of, IsGone, IsHead, IsRuled}
-use Rattle.word_rule.specs.Plays.{Mine, Becomes, Takes, Looks, Cuts, Tells, Clears, look_of, inputs_at, new_facts, clear_of}
+use Rattle.word_rule.specs.Views.{system_of, rows_of, opened, looked_in, owed_in, stepped_to, spent}
+use Rattle.word_rule.specs.Rule.{IsGone, IsHead, IsRuled}
+use Rattle.word_rule.specs.Plays.{Mine, Takes, Looks, Cuts, Tells, Clears, look_of, inputs_at, new_facts, clear_of}
 use Rattle.word_rule.proofs.Places.{at_inside, same_at, seats_at, seats_set}
 
 module _ (k : Key) (t : State (Unit {0}) View) (r : IsRuled k t) where

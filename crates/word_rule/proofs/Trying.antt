@@ -1,11 +1,11 @@
 -- What tests show of the seats that they step with.
-use Rattle.std.proofs.Common.{◌≡◌, ℕ, zero, suc, ◌<◌, Bool, true, false, if◌then◌else◌, List, [], ◌∷◌, length, replicate, set, slice_get, Option, Some, None, Contains, refl, ap, sym, ◌∙◌, subst, arith}
+use Rattle.std.proofs.Common.{◌≡◌, ℕ, Bool, true, false, if◌then◌else◌, List, [], ◌∷◌, length, replicate, set, slice_get, Some, None, Contains, ap, sym, ◌∙◌, arith}
 use Rattle.std.proofs.lemmas.Option.{none-some, same_Some}
 use Rattle.attr_ids.specs.declared.ids.PosId.{PosId}
 use Rattle.rule_terms.specs.System.{System, inputs_of}
 use Rattle.fix_core.specs.declared.state.CoreSeat.{CoreSeat}
 use Rattle.fix_core.specs.declared.state.CoreMode.{CoreMode}
-use Rattle.fix_core.specs.declared.state.CoreMode.TheVariants.{Idle, Open, Owes}
+use Rattle.fix_core.specs.declared.state.CoreMode.TheVariants.{Idle}
 use Rattle.fix_core.specs.Machine.{is_clean, has_all, owing, facts_of, after_take, after_look, after_clear}
 use Rattle.word_rule.specs.Views.{opened, looked_in, owed_in}
 use Rattle.word_rule.proofs.Remembering.{takes_up}

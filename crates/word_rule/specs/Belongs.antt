@@ -1,14 +1,13 @@
 -- What contracts say of the seats of a table.
-use Rattle.std.specs.Prelude.{◌≡◌, ℕ, ◌<◌, List, length, Option, Some, None, slice_get, Contains}
-use Rattle.attr_ids.specs.declared.ids.PosId.{PosId}
+use Rattle.std.specs.Prelude.{◌≡◌, ℕ, ◌<◌, List, length, Some, slice_get, Contains}
 use Rattle.rule_terms.specs.System.{System}
 use Rattle.dep_graph.specs.declared.graph.Row.{Row}
 use Rattle.fix_core.specs.declared.state.CoreSeat.{CoreSeat}
 use Rattle.fix_core.specs.declared.state.CoreMode.{CoreMode}
-use Rattle.fix_core.specs.declared.state.CoreMode.TheVariants.{Idle, Open, Owes}
+use Rattle.fix_core.specs.declared.state.CoreMode.TheVariants.{Open}
 use Rattle.word_rule.specs.declared.seat.WorkerSeat.{WorkerSeat}
 use Rattle.word_rule.specs.declared.words.LatticeWords.{LatticeWords}
-use Rattle.word_rule.specs.Views.{position, opened, looked_in, owed_in, stepped_to}
+use Rattle.word_rule.specs.Views.{position, opened, looked_in, stepped_to}
 
 -- the seat as a seat of the core machine
 abbrev pub core_of : WorkerSeat → CoreSeat
@@ -22,13 +21,15 @@ number_of seat = seat.seat.me.0.number
 abbrev pub found_by : WorkerSeat → ℕ
 found_by seat = seat.seat.me.0.found
 
--- the system of a table, its graph, and for how many workers it was opened
+-- the system of a table
 abbrev pub system_in : LatticeWords → System
 system_in words = words.system.now
 
+-- the rows of its graph
 abbrev pub graph_in : LatticeWords → List Row
 graph_in words = words.graph.now
 
+-- for how many workers it was opened
 abbrev pub workers_in : LatticeWords → ℕ
 workers_in words = words.table.shared.key.workers
 

@@ -1,10 +1,9 @@
 -- What a step tells its seat: the views before and after, and the number that the step found in the word.
-use Rattle.std.specs.Prelude.{◌≡◌, ◌≢◌, ℕ, ◌<◌, ◌≤◌, ◌==◌, if◌then◌else◌, List, length, Option, AllPairs, Contains}
+use Rattle.std.specs.Prelude.{◌≡◌, ◌≢◌, ℕ, ◌<◌, ◌≤◌, ◌==◌, if◌then◌else◌, List, length, AllPairs, Contains}
 use Rattle.atomic_table.specs.Table.{Me}
 use Rattle.attr_ids.specs.declared.ids.PosId.{PosId}
 use Rattle.rule_terms.specs.Slots.{input_at}
-use Rattle.rule_terms.specs.System.{System, inputs_of, value_at}
-use Rattle.dep_graph.specs.declared.graph.Row.{Row}
+use Rattle.rule_terms.specs.System.{inputs_of, value_at}
 use Rattle.dep_graph.specs.Graph.{budget_of}
 use Rattle.fix_core.specs.declared.state.CoreSeat.{CoreSeat}
 use Rattle.fix_core.specs.Machine.{values_of, dirty_at, after_take, after_look, after_cut, after_tell, after_clear}
@@ -55,5 +54,6 @@ pub record Tells (d : ℕ) (old : Mine) (word : ℕ) (new : Mine) : Type 0 where
 abbrev pub clear_of : View → ℕ → ℕ → CoreSeat
 clear_of v p word = if dirty_at word v.number == 0 then after_clear (position p) v.core else v.core
 
+-- the seat came to know the position, or nothing more
 pub record Clears (p : ℕ) (old : Mine) (word : ℕ) (new : Mine) : Type 0 where
   pub seat : Becomes old word (clear_of old.0 p word) new

@@ -1,5 +1,5 @@
 -- What a seat's memory has of its view, and what it has room for.
-use Rattle.std.specs.Prelude.{ℕ, zero, suc, max, List, length, Option, Some, None}
+use Rattle.std.specs.Prelude.{ℕ, zero, suc, max, length, Option, Some, None}
 use Rattle.attr_ids.specs.declared.ids.PosId.{PosId}
 use Rattle.rule_terms.specs.System.{inputs_of}
 use Rattle.dep_graph.specs.Graph.{row_at}
@@ -27,9 +27,10 @@ unfoldable pub most : (ℕ → ℕ) → ℕ → ℕ
 most f zero = 0
 most f (suc n) = max (most f n) (f n)
 
--- the most inputs that a position of the table has, and the most dependents
+-- the most inputs that a position of the table has
 unfoldable pub most_inputs : Option Key → ℕ
 most_inputs about = most (λ p. length (inputs_of (system_of about) p)) (length (system_of about).masks)
 
+-- the most dependents
 unfoldable pub most_dependents : Option Key → ℕ
 most_dependents about = most (λ p. length (row_at (rows_of about) p).dependents) (length (system_of about).masks)

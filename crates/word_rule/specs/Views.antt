@@ -1,5 +1,5 @@
 -- What a seat knows: its table, its number, and its seat of the core machine.
-use Rattle.std.specs.Prelude.{ℕ, zero, suc, ◌+◌, Bool, true, ◌&&◌, List, [], ◌∷◌, ◌++◌, length, Option, Some, None}
+use Rattle.std.specs.Prelude.{ℕ, zero, suc, ◌+◌, Bool, true, ◌&&◌, List, [], ◌∷◌, length, Option, Some, None}
 use Rattle.attr_ids.specs.declared.ids.PosId.{PosId}
 use Rattle.rule_terms.specs.Names.{has_name}
 use Rattle.rule_terms.specs.System.{System, with_masks}
@@ -12,14 +12,16 @@ use Rattle.word_rule.specs.declared.view.Key.{Key}
 use Rattle.word_rule.specs.declared.view.Joined.{Joined}
 use Rattle.word_rule.specs.declared.view.View.{View}
 
+-- the position of a number
 abbrev pub position : ℕ → PosId
 position p = record { 0 = p }
 
--- the system of a table, and its graph
+-- the system of a table, and an empty one where there is no table
 abbrev pub system_of : Option Key → System
 system_of None = with_masks []
 system_of (Some k) = k.system.value
 
+-- the rows of its graph
 abbrev pub rows_of : Option Key → List Row
 rows_of None = []
 rows_of (Some k) = k.graph.value

@@ -1,7 +1,6 @@
-ghost use Rattle.std.specs.Prelude.{◌≡◌, ℕ, ◌+◌, ◌^◌, ◌<◌, ◌≤◌, [], true, false, length, All, IfOk, MatchOption, Some, vec_capacity, slice_get, ◌==◌, if◌then◌else◌, Contains};
-ghost use Rattle.rule_terms.specs.Slots.{input_at};
-ghost use Rattle.rule_terms.specs.System.{inputs_of, value_at, IsSystem};
-ghost use Rattle.dep_graph.specs.Graph.{row_at, budget_of};
+ghost use Rattle.std.specs.Prelude.{◌≡◌, ◌+◌, ◌^◌, ◌<◌, ◌≤◌, true, false, length, MatchOption, Some, slice_get, ◌==◌, if◌then◌else◌, Contains};
+ghost use Rattle.rule_terms.specs.System.{inputs_of, value_at};
+ghost use Rattle.dep_graph.specs.Graph.{budget_of};
 ghost use Rattle.fix_core.specs.declared.state.CoreMode.TheVariants.{Idle};
 ghost use Rattle.fix_core.specs.Machine.{facts_of, dirty_at, is_clean, lost_by, has_all, values_of, after_take, after_look, after_cut, after_tell, after_clear};
 ghost use Rattle.word_rule.specs.Views.{opened, looked_in, owed_in};
