@@ -1,5 +1,5 @@
 -- Seat 0 takes in all other seats, from the last.
-use Rattle.std.proofs.Common.{◌≡◌, ◌⊎◌, ℕ, zero, suc, ◌+◌, ◌<◌, ◌≤◌, true, List, [], ◌∷◌, ◌++◌, length, map, get_or, slice_get, Option, Some, None, All, Contains, sum_by, add-one, refl, ap, sym, ◌∙◌, subst, arith, inl, inr}
+use Rattle.std.proofs.Common.{◌≡◌, ℕ, zero, suc, ◌+◌, ◌<◌, ◌≤◌, List, [], ◌∷◌, ◌++◌, length, map, get_or, slice_get, Option, Some, All, Contains, sum_by, add-one, refl, ap, sym, ◌∙◌, subst, arith, inl, inr}
 use mathlib.Core.Option.{some}
 use lib.ListN.{get_elem?}
 use Rattle.std.specs.List.{remove}
@@ -8,12 +8,10 @@ use Rattle.std.proofs.lemmas.List.Elements.{All-cons}
 use Rattle.std.proofs.lemmas.List.{length-map, length_push}
 use Rattle.std.proofs.lemmas.List.Sums.{sum_by_push, sum_by-cons}
 use Rattle.std.proofs.lemmas.Option.{same_Some, none-some, slice_get_within, get_or_from_slice_get}
-use Rattle.atomic_table.specs.Table.{State}
 use Rattle.rule_terms.specs.System.{System}
 use Rattle.rule_terms.specs.Greatest.{AreWithin, IsAbove, IsGreatest}
 use Rattle.dep_graph.specs.declared.graph.Row.{Row}
 use Rattle.dep_graph.specs.Graph.{budget_of}
-use Rattle.fix_core.specs.declared.state.CoreSeat.{CoreSeat}
 use Rattle.fix_core.specs.declared.state.CoreMode.TheVariants.{Idle}
 use Rattle.fix_core.specs.Machine.{facts_of, new_seat}
 use Rattle.fix_core.proofs.Resting.{core_within, core_above}

@@ -1,6 +1,6 @@
 -- Splitting a seat and joining one keep the rule of the table, and a table opens with it.
-use Rattle.std.proofs.Common.{◌≡◌, ◌≢◌, ◌⊎◌, ℕ, zero, suc, ◌+◌, ◌-◌, ◌<◌, ◌≤◌, ◌&&◌, ◌||◌, Bool, true, false, List, [], ◌∷◌, ◌++◌, map, length, replicate, set, get_or, slice_index, slice_get, Option, Some, None, All, AllPairs, Contains, refl, ap, sym, ◌∙◌, subst, arith, inl, inr}
-use mathlib.Core.Option.{none, some, some-injective, some-ne-none}
+use Rattle.std.proofs.Common.{◌≡◌, ◌≢◌, ◌⊎◌, ℕ, zero, suc, ◌+◌, ◌-◌, ◌<◌, ◌≤◌, ◌&&◌, Bool, true, false, List, [], ◌∷◌, ◌++◌, map, length, replicate, set, slice_index, slice_get, Option, Some, Contains, refl, ap, sym, ◌∙◌, subst, arith, inl, inr}
+use mathlib.Core.Option.{some, some-injective, some-ne-none}
 use lib.ListN.{get_elem?}
 use Rattle.std.proofs.lemmas.Bool.{cases_eq, cases_lt}
 use Rattle.std.proofs.lemmas.Nat.Bits.{bit_at_above}
@@ -9,20 +9,17 @@ use Rattle.std.proofs.lemmas.List.Elements.{All-nil, All-cons, All-weaker, All-c
 use Rattle.std.proofs.lemmas.List.Kept.{AllPairs-cons}
 use Rattle.std.proofs.lemmas.Option.{same_Some}
 use Rattle.atomic_table.specs.Table.{State, Splits, Joins, opening}
-use Rattle.atomic_table.proofs.Lists.{at_set, set_here, set_else, at_snoc, at_longer, at_last}
+use Rattle.atomic_table.proofs.Lists.{at_set, set_here, set_else, at_longer}
 use Rattle.attr_ids.specs.declared.ids.PosId.{PosId}
 use Rattle.rule_terms.specs.Names.{has_name}
 use Rattle.rule_terms.specs.System.{System, IsSystem}
 use Rattle.rule_terms.specs.Greatest.{IsGreatest}
 use Rattle.dep_graph.specs.declared.graph.Row.{Row}
 use Rattle.dep_graph.specs.Graph.{IsGraphOf}
-use Rattle.fix_core.specs.declared.state.CoreState.{CoreState}
 use Rattle.fix_core.specs.declared.state.CoreSeat.{CoreSeat}
 use Rattle.fix_core.specs.declared.state.CoreMode.TheVariants.{Idle}
 use Rattle.fix_core.specs.Machine.{facts_of, dirty_at, new_seat, joined, opening_words}
 use Rattle.fix_core.specs.Machine as machine
-use Rattle.fix_core.specs.Invariant.{IsCore}
-use Rattle.fix_core.specs.Counts.{AreCounted}
 use Rattle.fix_core.proofs.Owing.{named_contains, contains_named}
 use Rattle.fix_core.proofs.Opening.{opening_core, replicated}
 use Rattle.fix_core.proofs.Resting.{core_greatest}

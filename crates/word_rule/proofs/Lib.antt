@@ -6,3 +6,4 @@ pub mod Rooms
 pub mod Remembering
 pub mod Beginning
 pub mod Gathering
+pub mod Trying

@@ -1,6 +1,6 @@
 -- Views by their places, and the seats of the core machine that they have.
-use Rattle.std.proofs.Common.{◌≡◌, ℕ, zero, suc, ◌+◌, ◌-◌, ◌<◌, ◌≤◌, List, [], ◌∷◌, ◌++◌, map, length, replicate, set, slice_get, Option, Some, None, refl, ap, sym, ◌∙◌, subst, arith}
-use mathlib.Core.Option.{none, some, some-injective, some-ne-none}
+use Rattle.std.proofs.Common.{◌≡◌, ℕ, zero, suc, ◌-◌, ◌<◌, List, [], ◌∷◌, ◌++◌, map, length, replicate, set, slice_get, Some, ap, sym, ◌∙◌, subst, arith}
+use mathlib.Core.Option.{some, some-injective, some-ne-none}
 use lib.ListN.{get_elem?}
 use Rattle.std.proofs.lemmas.List.{length-map, length-set, map-set, set-append_left, map-append, append_assoc, length_push}
 use Rattle.fix_core.specs.declared.state.CoreSeat.{CoreSeat}

@@ -1,13 +1,11 @@
 -- What a seat's memory has of its view, after each event.
-use Rattle.std.proofs.Common.{◌≡◌, ℕ, zero, suc, ◌+◌, ◌*◌, ◌%◌, ◌^◌, ◌<◌, ◌≤◌, Bool, true, false, if◌then◌else◌, List, [], ◌∷◌, length, set, replicate, Option, Some, None, Contains, refl, ap, sym, ◌∙◌, subst, arith}
+use Rattle.std.proofs.Common.{◌≡◌, ℕ, zero, suc, ◌+◌, ◌*◌, ◌%◌, ◌^◌, ◌<◌, false, if◌then◌else◌, List, [], ◌∷◌, length, set, replicate, Option, Some, None, refl, ap, sym, ◌∙◌, subst, arith}
 use Rattle.std.proofs.Math.Pow.{pow-lt}
 use Rattle.attr_ids.specs.declared.ids.PosId.{PosId}
 use Rattle.rule_terms.specs.Slots.{input_at}
 use Rattle.rule_terms.specs.System.{System, inputs_of}
-use Rattle.dep_graph.specs.declared.graph.Row.{Row}
 use Rattle.fix_core.specs.declared.state.CoreSeat.{CoreSeat}
-use Rattle.fix_core.specs.declared.state.CoreMode.{CoreMode}
-use Rattle.fix_core.specs.declared.state.CoreMode.TheVariants.{Idle, Open, Owes}
+use Rattle.fix_core.specs.declared.state.CoreMode.TheVariants.{Idle, Open}
 use Rattle.fix_core.specs.Machine.{is_clean, values_of, owing, after_take}
 use Rattle.word_rule.specs.declared.view.Key.{Key}
 use Rattle.word_rule.specs.Plays.{Mine, Becomes, Looks, look_of, inputs_at}
@@ -50,7 +48,7 @@ owing_looked (d ∷ ds) = refl
 
 -- a seat that looked at an input by its number
 pub looked_became : (k : Key) (s : System) (old new : Mine) (i word : ℕ) (place : Option PosId) (p : PosId) (list : List PosId) → old.0.about ≡ Some k → k.system.value ≡ s → place ≡ Some p → place ≡ place_in old.0.core.mode →
-    old.0.core.mode ≡ Open (opened old.0.core.mode) (looked_in old.0.core.mode) → i < length (inputs_of s (opened old.0.core.mode).0) → list ≡ inputs_of s p.0 → Looks (input_at list i).0 old word new → Becomes old (look_of old.0 i word) new
+    old.0.core.mode ≡ Open (opened old.0.core.mode) (looked_in old.0.core.mode) → i < length (inputs_of s (opened old.0.core.mode).0) → list ≡ inputs_of s p.0 → Looks (input_at list i).0 old word new → Becomes old word (look_of old.0 i word) new
 looked_became k s old new i word place p list is system some_place kept mode l are looks =
     let at : p ≡ opened old.0.core.mode = place_open old.0.core.mode place p some_place kept mode in
     let same : system_of old.0.about ≡ s = system_is k old.0.about s is system in

@@ -1,5 +1,5 @@
 -- What a seat has room for.
-use Rattle.std.proofs.Common.{◌≡◌, ℕ, zero, suc, ◌<◌, ◌≤◌, max, inl, inr, List, length, Option, Some, None, refl, ap, sym, ◌∙◌, subst, arith}
+use Rattle.std.proofs.Common.{◌≡◌, ℕ, zero, suc, ◌<◌, ◌≤◌, inl, inr, List, length, Option, Some, refl, ap, sym, ◌∙◌, subst, arith}
 use Rattle.std.proofs.lemmas.Bool.{cases_eq}
 use Rattle.std.proofs.lemmas.Option.{same_Some, slice_get-get_or}
 use Rattle.attr_ids.specs.declared.ids.PosId.{PosId}
@@ -10,7 +10,7 @@ use Rattle.dep_graph.specs.declared.graph.Row.{Row}
 use Rattle.dep_graph.specs.Graph.{row_at}
 use Rattle.word_rule.specs.declared.view.Key.{Key}
 use Rattle.fix_core.specs.declared.state.CoreMode.{CoreMode}
-use Rattle.fix_core.specs.declared.state.CoreMode.TheVariants.{Idle, Open, Owes}
+use Rattle.fix_core.specs.declared.state.CoreMode.TheVariants.{Open}
 use Rattle.word_rule.specs.Views.{system_of, rows_of, opened, looked_in}
 use Rattle.word_rule.specs.Seats.{place_in, position_count, input_count, most, most_inputs, most_dependents}
 

@@ -1,14 +1,14 @@
 -- Each kind of step keeps the rule of the table, by the law of the core machine for its event.
-use Rattle.std.proofs.Common.{◌≡◌, ◌≢◌, ℕ, zero, suc, ◌+◌, ◌-◌, ◌==◌, ◌^◌, ◌<◌, ◌≤◌, Bool, true, false, if◌then◌else◌, eqb, eqb-true, List, [], ◌∷◌, ◌++◌, map, length, replicate, set, slice_index, slice_get, Option, Some, None, All, Contains, bit_and, bit_or, refl, ap, sym, ◌∙◌, subst, arith, inl, inr}
-use mathlib.Core.Option.{none, some, some-injective}
+use Rattle.std.proofs.Common.{◌≡◌, ◌≢◌, ℕ, zero, suc, ◌+◌, ◌-◌, ◌==◌, ◌^◌, ◌<◌, ◌≤◌, Bool, true, false, if◌then◌else◌, eqb-true, List, [], ◌∷◌, ◌++◌, length, set, slice_index, slice_get, Option, Some, Contains, bit_and, bit_or, refl, ap, sym, ◌∙◌, subst, arith, inl, inr}
+use mathlib.Core.Option.{some}
 use lib.ListN.{get_elem?}
 use Rattle.std.proofs.lemmas.Bool.{cases_eq}
 use Rattle.std.proofs.lemmas.List.{length-set, set-append_left, get_or_append_left, set-get_or}
 use Rattle.std.proofs.lemmas.List.Elements.{All-weaker}
 use Rattle.std.proofs.lemmas.Nat.Bits.{bit_at_and}
 use Rattle.std.proofs.lemmas.Option.{none-some, same_Some}
-use Rattle.atomic_table.specs.Table.{State, Me, Allows, keeps}
-use Rattle.atomic_table.proofs.Lists.{at_set, set_here, set_else, set_again}
+use Rattle.atomic_table.specs.Table.{State, Allows, keeps}
+use Rattle.atomic_table.proofs.Lists.{at_set, set_here, set_else}
 use Rattle.attr_ids.specs.declared.ids.PosId.{PosId}
 use Rattle.rule_terms.specs.Slots.{input_at}
 use Rattle.rule_terms.specs.System.{System, inputs_of, value_at}
@@ -18,10 +18,10 @@ use Rattle.fix_core.specs.declared.state.CoreState.{CoreState}
 use Rattle.fix_core.specs.declared.state.CoreSeat.{CoreSeat}
 use Rattle.fix_core.specs.declared.state.CoreMode.{CoreMode}
 use Rattle.fix_core.specs.declared.state.CoreMode.TheVariants.{Idle, Open, Owes}
-use Rattle.fix_core.specs.Machine.{dirty_at, cleaned, dirtied, cut_to, values_of, has_all, written, seated, after_take, after_look, after_cut, after_tell, after_clear}
+use Rattle.fix_core.specs.Machine.{dirty_at, cleaned, cut_to, values_of, has_all, written, seated, after_take, after_look, after_cut, after_tell, after_clear}
 use Rattle.fix_core.specs.Invariant.{IsMode, AreOwed, IsCore}
 use Rattle.fix_core.specs.Counts.{AreCounted}
-use Rattle.fix_core.proofs.Words.{cleaned_clean, dirtied_other, cut_dirty, word_after}
+use Rattle.fix_core.proofs.Words.{cleaned_clean, dirtied_other, word_after}
 use Rattle.fix_core.proofs.Joining.{owed_inside}
 use Rattle.fix_core.proofs.Cutting.{cut_kept}
 use Rattle.fix_core.proofs.Written.{entry_here}
@@ -30,9 +30,9 @@ use Rattle.fix_core.proofs.Counting.{take_counted, look_counted, cut_counted, te
 use Rattle.word_rule.specs.declared.view.Key.{Key}
 use Rattle.word_rule.specs.declared.view.Joined.{Joined}
 use Rattle.word_rule.specs.declared.view.View.{View}
-use Rattle.word_rule.specs.Views.{position, system_of, rows_of, opened, looked_in, owed_in, with_core, spent}
-use Rattle.word_rule.specs.Rule.{seats_of, IsGone, IsHead, IsRuled}
-use Rattle.word_rule.specs.Plays.{Mine, Becomes, Takes, Looks, Cuts, Tells, Clears, look_of, inputs_at, new_facts, clear_of}
+use Rattle.word_rule.specs.Views.{system_of, rows_of, opened, looked_in, owed_in, stepped_to, spent}
+use Rattle.word_rule.specs.Rule.{IsGone, IsHead, IsRuled}
+use Rattle.word_rule.specs.Plays.{Mine, Takes, Looks, Cuts, Tells, Clears, look_of, inputs_at, new_facts, clear_of}
 use Rattle.word_rule.proofs.Places.{at_inside, same_at, seats_at, seats_set}
 
 module _ (k : Key) (t : State (Unit {0}) View) (r : IsRuled k t) where
@@ -64,10 +64,10 @@ module _ (k : Key) (t : State (Unit {0}) View) (r : IsRuled k t) where
         }
 
     -- seat 0 stays, and knows what it knew
-    pub head_kept : (words : List ℕ) (c : CoreSeat) → ((q j : ℕ) → j ≢ i → dirty_at (slice_index r.core.words q) j ≡ 0 → dirty_at (slice_index words q) j ≡ 0) →
-        (h : View) × (get_elem? (set t.views i (with_core v c)) 0 ≡ some h) × IsHead k words (set t.views i (with_core v c)) h
-    head_kept words c others =
-        let w : View = with_core v c in
+    pub head_kept : (words : List ℕ) (found : ℕ) (c : CoreSeat) → ((q j : ℕ) → j ≢ i → dirty_at (slice_index r.core.words q) j ≡ 0 → dirty_at (slice_index words q) j ≡ 0) →
+        (h : View) × (get_elem? (set t.views i (stepped_to v found c)) 0 ≡ some h) × IsHead k words (set t.views i (stepped_to v found c)) h
+    head_kept words found c others =
+        let w : View = stepped_to v found c in
         let long : length (set t.views i w) ≡ length t.views = length-set t.views i w in
         elim (cases_eq i 0) [
           | inl here ↦
@@ -95,14 +95,14 @@ module _ (k : Key) (t : State (Unit {0}) View) (r : IsRuled k t) where
         ]
 
     -- the rule once the seat has changed, and the words too
-    pub ruled : (core_words words : List ℕ) (c : CoreSeat) → words ≡ core_words ++ 0 ∷ [] →
+    pub ruled : (core_words words : List ℕ) (found : ℕ) (c : CoreSeat) → words ≡ core_words ++ 0 ∷ [] →
         ((q j : ℕ) → j ≢ i → dirty_at (slice_index r.core.words q) j ≡ 0 → dirty_at (slice_index core_words q) j ≡ 0) →
         IsCore k.system.value k.graph.value k.workers (record { words = core_words; seats = set r.core.seats i c }) →
         AreCounted k.system.value k.graph.value (record { words = core_words; seats = set r.core.seats i c }) →
-        IsRuled k (record { words = words; homes = t.homes; views = set t.views i (with_core v c) })
-    ruled core_words words c is others core counted =
-        let w : View = with_core v c in
-        let head = head_kept core_words c others in
+        IsRuled k (record { words = words; homes = t.homes; views = set t.views i (stepped_to v found c) })
+    ruled core_words words found c is others core counted =
+        let w : View = stepped_to v found c in
+        let head = head_kept core_words found c others in
         record {
           system = r.system;
           graph = r.graph;
@@ -126,18 +126,18 @@ module _ (k : Key) (t : State (Unit {0}) View) (r : IsRuled k t) where
         }
 
     -- one word was written
-    pub writes : (p n : ℕ) (c : CoreSeat) → p < count → ((j : ℕ) → j ≢ i → dirty_at (slice_index r.core.words p) j ≡ 0 → dirty_at n j ≡ 0) →
+    pub writes : (p n found : ℕ) (c : CoreSeat) → p < count → ((j : ℕ) → j ≢ i → dirty_at (slice_index r.core.words p) j ≡ 0 → dirty_at n j ≡ 0) →
         IsCore k.system.value k.graph.value k.workers (written r.core p n i c) → AreCounted k.system.value k.graph.value (written r.core p n i c) →
-        IsRuled k (record { words = set t.words p n; homes = t.homes; views = set t.views i (with_core v c) })
-    writes p n c l others core counted =
+        IsRuled k (record { words = set t.words p n; homes = t.homes; views = set t.views i (stepped_to v found c) })
+    writes p n found c l others core counted =
         let inside : p < length r.core.words = (let long = r.keeps.words in omega (arith, l, long)) in
-        ruled (set r.core.words p n) (set t.words p n) c (ap (λ ws. set ws p n) r.words ∙ set-append_left r.core.words (0 ∷ []) p n inside)
+        ruled (set r.core.words p n) (set t.words p n) found c (ap (λ ws. set ws p n) r.words ∙ set-append_left r.core.words (0 ∷ []) p n inside)
         (λ q j ne h. word_after (λ m. dirty_at m j ≡ 0) r.core.words p n q (λ here. others j ne (ap (λ x. dirty_at (slice_index r.core.words x) j) (sym here) ∙ h)) h) core counted
 
     -- no word changed
-    pub loads : (p : ℕ) (c : CoreSeat) → IsCore k.system.value k.graph.value k.workers (seated r.core i c) → AreCounted k.system.value k.graph.value (seated r.core i c) →
-        IsRuled k (record { words = set t.words p (slice_index t.words p); homes = t.homes; views = set t.views i (with_core v c) })
-    loads p c core counted = ruled r.core.words (set t.words p (slice_index t.words p)) c (set-get_or t.words p 0 ∙ r.words) (λ q j ne h. h) core counted
+    pub loads : (p found : ℕ) (c : CoreSeat) → IsCore k.system.value k.graph.value k.workers (seated r.core i c) → AreCounted k.system.value k.graph.value (seated r.core i c) →
+        IsRuled k (record { words = set t.words p (slice_index t.words p); homes = t.homes; views = set t.views i (stepped_to v found c) })
+    loads p found c core counted = ruled r.core.words (set t.words p (slice_index t.words p)) found c (set-get_or t.words p 0 ∙ r.words) (λ q j ne h. h) core counted
 
 -- ---- words and seats that stay
 pub same_entry : (seats : List CoreSeat) (w : ℕ) (seat : CoreSeat) → slice_get seats w ≡ Some seat → set seats w seat ≡ seats
@@ -151,9 +151,9 @@ cut_stays new n j h = omega (arith, bit_at_and n (bit_or new (2 ^ 64 - 2 ^ 47)) 
 
 -- ---- taking up
 took_up : (k : Key) (me : Mine) (p : PosId) (n : ℕ) → me.0.about ≡ Some k → (after_take k.system.value p n me.0.core).took ≤ budget_of k.system.value k.graph.value →
-    Takes p.0 me n (with_core me.0 (after_take k.system.value p n me.0.core), me.1)
+    Takes p.0 me n (stepped_to me.0 n (after_take k.system.value p n me.0.core), me.1)
 took_up k me p n about few = record {
-  seat = record { view = ap (λ (o : Option Key). with_core me.0 (after_take (system_of o) p n me.0.core)) (sym about); slots = refl };
+  seat = record { view = ap (λ (o : Option Key). stepped_to me.0 n (after_take (system_of o) p n me.0.core)) (sym about); slots = refl };
   few = subst (λ (o : Option Key). (after_take k.system.value p n me.0.core).took ≤ budget_of (system_of o) (rows_of o)) (sym about) few;
 }
 
@@ -171,10 +171,10 @@ takes k slots id me p about idle l t r _ at _ =
     let counted : AreCounted s g (written r.core p.0 (cleaned n) id c) =
     subst (λ m. AreCounted s g (written r.core p.0 (cleaned m) id (after_take s p m me.0.core))) same (take_counted s g r.graph k.workers r.core r.keeps r.counts id me.0.core there p l idle) in
     let budget : c.took ≤ budget_of s g = each_within_budget s g (written r.core p.0 (cleaned n) id c) counted id c (entry_here r.core.seats id me.0.core c there) in (
-      with_core me.0 c,
+      stepped_to me.0 n c,
       keeps,
       tt,
-      writes k t r id me.0 at about p.0 (cleaned n) c l (λ j ne h. cleaned_clean n j) core counted,
+      writes k t r id me.0 at about p.0 (cleaned n) n c l (λ j ne h. cleaned_clean n j) core counted,
       took_up k me p n about budget,
     )
 
@@ -197,11 +197,11 @@ looks k slots id me i about mode l once t r _ at _ =
     subst (λ m. IsCore s g k.workers (seated r.core id (after_look p looked i m me.0.core))) same (look_kept s g k.workers r.few r.core r.keeps id me.0.core there p looked i mode) in
     let counted : AreCounted s g (seated r.core id c) =
     subst (λ m. AreCounted s g (seated r.core id (after_look p looked i m me.0.core))) same (look_counted s g r.graph k.workers r.core r.keeps r.counts id me.0.core there p looked i mode) in (
-      with_core me.0 c,
+      stepped_to me.0 n c,
       keeps,
       tt,
-      loads k t r id me.0 at about q c core counted,
-      record { seat = λ j inside is. record { view = ap (λ x. with_core me.0 (look_of me.0 x n)) (sym (once j inside is)); slots = refl } },
+      loads k t r id me.0 at about q n c core counted,
+      record { seat = λ j inside is. record { view = ap (λ x. stepped_to me.0 n (look_of me.0 x n)) (sym (once j inside is)); slots = refl } },
     )
 
 -- ---- cutting
@@ -229,13 +229,13 @@ cuts k slots id me new about mode l all is t r _ at _ =
     (cut_kept s g k.workers r.few r.system r.graph r.core r.keeps id me.0.core there p looked mode all) in
     let counted : AreCounted s g (written r.core p.0 (cut_to new n) id c) =
     subst (λ m. AreCounted s g (written r.core p.0 (cut_to new m) id (after_cut g p new m me.0.core))) same (cut_counted s g r.graph k.workers r.core r.keeps r.counts id me.0.core there p looked new mode) in (
-      with_core me.0 c,
+      stepped_to me.0 n c,
       keeps,
       tt,
-      writes k t r id me.0 at about p.0 (cut_to new n) c l (λ j ne h. cut_stays new n j (ap (λ x. dirty_at x j) (sym same) ∙ h)) core counted,
+      writes k t r id me.0 at about p.0 (cut_to new n) n c l (λ j ne h. cut_stays new n j (ap (λ x. dirty_at x j) (sym same) ∙ h)) core counted,
       record {
         seat = record {
-          view = λ j. with_core me.0 (after_cut (rows_of (sym about j)) p (is j) n me.0.core);
+          view = λ j. stepped_to me.0 n (after_cut (rows_of (sym about j)) p (is j) n me.0.core);
           slots = refl;
         };
         owed = λ d has. subst (λ (o : Option Key). d.0 < length (system_of o).masks) (sym about)
@@ -273,10 +273,10 @@ tells k slots id me d bit about l has is t r _ at _ =
     subst (λ (y : ℕ × ℕ × ℕ). AreCounted s g (written r.core d.0 (bit_or y.0 y.1) id (after_tell y.2 d list y.0 me.0.core)))
     (λ j. (same j, (ap (λ x. 2 ^ (48 + x)) (sym number) ∙ sym is) j, sym number j))
     (tell_counted s g r.graph k.workers r.core r.keeps r.counts id me.0.core there d list l mode has) in (
-      with_core me.0 c,
+      stepped_to me.0 n c,
       keeps,
       tt,
-      writes k t r id me.0 at about d.0 (bit_or n bit) c l
+      writes k t r id me.0 at about d.0 (bit_or n bit) n c l
           (λ j ne h. subst (λ b. dirty_at (bit_or n b) j ≡ 0) (ap (λ x. 2 ^ (48 + x)) (sym number) ∙ sym is) (dirtied_other n id j ne ∙ ap (λ x. dirty_at x j) (sym same) ∙ h)) core counted,
       record {
         seat = record { view = refl; slots = refl };
@@ -306,10 +306,10 @@ clears k slots id me p about l t r _ at _ =
     let there = seat_is k t r id me.0 at about in
     let unset : (dirty_at n me.0.number == 0) ≡ true → dirty_at (slice_index r.core.words p.0) id ≡ 0 =
     λ e. subst (λ (y : ℕ × ℕ). dirty_at y.0 y.1 ≡ 0) (λ j. (word_is k t r p.0 l j, number j)) (eqb-true (dirty_at n me.0.number) 0 e) in (
-      with_core me.0 c,
+      stepped_to me.0 n c,
       keeps,
       tt,
-      loads k t r id me.0 at about p.0 c (clear_core s g k.workers r.few r.core r.keeps id me.0 there p (dirty_at n me.0.number == 0) unset)
+      loads k t r id me.0 at about p.0 n c (clear_core s g k.workers r.few r.core r.keeps id me.0 there p (dirty_at n me.0.number == 0) unset)
           (clear_count s g r.graph k.workers r.core r.keeps r.counts id me.0 there p (dirty_at n me.0.number == 0)),
       record { seat = record { view = refl; slots = refl } },
     )

@@ -1,6 +1,6 @@
 -- Finding a position in a list, and striking it out.
-use Rattle.std.proofs.Common.{◌≡◌, ◌≢◌, ℕ, zero, suc, ◌+◌, ◌<◌, ◌≤◌, Bool, true, false, not, cond, eqb, eq-eqb, ne_eqb, List, [], ◌∷◌, length, get_or, drop, length-drop, AllPairs, Contains, refl, ap, sym, ◌∙◌, subst, arith}
-use Rattle.std.specs.List.{remove, filter}
+use Rattle.std.proofs.Common.{◌≡◌, ◌≢◌, ℕ, zero, suc, ◌+◌, ◌<◌, ◌≤◌, not, cond, eqb, eq-eqb, ne_eqb, List, [], ◌∷◌, length, get_or, drop, length-drop, AllPairs, Contains, refl, ap, sym, ◌∙◌, subst, arith}
+use Rattle.std.specs.List.{remove}
 use Rattle.std.proofs.lemmas.List.{drop_more}
 use Rattle.attr_ids.specs.declared.ids.PosId.{PosId}
 use Rattle.fix_core.specs.Machine.{without}

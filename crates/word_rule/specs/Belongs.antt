@@ -1,14 +1,13 @@
 -- What contracts say of the seats of a table.
-use Rattle.std.specs.Prelude.{◌≡◌, ℕ, ◌<◌, List, length, Option, Some, None, slice_get, Contains}
-use Rattle.attr_ids.specs.declared.ids.PosId.{PosId}
+use Rattle.std.specs.Prelude.{◌≡◌, ℕ, ◌<◌, List, length, Some, slice_get, Contains}
 use Rattle.rule_terms.specs.System.{System}
 use Rattle.dep_graph.specs.declared.graph.Row.{Row}
 use Rattle.fix_core.specs.declared.state.CoreSeat.{CoreSeat}
 use Rattle.fix_core.specs.declared.state.CoreMode.{CoreMode}
-use Rattle.fix_core.specs.declared.state.CoreMode.TheVariants.{Idle, Open, Owes}
+use Rattle.fix_core.specs.declared.state.CoreMode.TheVariants.{Open}
 use Rattle.word_rule.specs.declared.seat.WorkerSeat.{WorkerSeat}
 use Rattle.word_rule.specs.declared.words.LatticeWords.{LatticeWords}
-use Rattle.word_rule.specs.Views.{position, opened, looked_in, owed_in, with_core}
+use Rattle.word_rule.specs.Views.{position, opened, looked_in, stepped_to}
 
 -- the seat as a seat of the core machine
 abbrev pub core_of : WorkerSeat → CoreSeat
@@ -17,6 +16,10 @@ core_of seat = seat.seat.me.0.core
 -- its number
 abbrev pub number_of : WorkerSeat → ℕ
 number_of seat = seat.seat.me.0.number
+
+-- the word that its last step found
+abbrev pub found_by : WorkerSeat → ℕ
+found_by seat = seat.seat.me.0.found
 
 -- the system of a table, its graph, and for how many workers it was opened
 abbrev pub system_in : LatticeWords → System
@@ -34,7 +37,7 @@ IsSeatOf words seat = (seat.seat.table_id ≡ words.table.shared.table_id) × (s
 
 -- the same seat, which may be in another state of the core machine
 abbrev pub IsSameSeat : WorkerSeat → WorkerSeat → Type 0
-IsSameSeat old new = (new.seat.table_id ≡ old.seat.table_id) × (new.seat.me.0 ≡ with_core old.seat.me.0 (core_of new))
+IsSameSeat old new = (new.seat.table_id ≡ old.seat.table_id) × (new.seat.me.0 ≡ stepped_to old.seat.me.0 (found_by new) (core_of new))
 
 -- a position is open
 abbrev pub IsOpen : CoreMode → Type 0

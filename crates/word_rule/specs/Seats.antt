@@ -1,5 +1,5 @@
 -- What a seat's memory has of its view, and what it has room for.
-use Rattle.std.specs.Prelude.{ℕ, zero, suc, max, List, length, Option, Some, None}
+use Rattle.std.specs.Prelude.{ℕ, zero, suc, max, length, Option, Some, None}
 use Rattle.attr_ids.specs.declared.ids.PosId.{PosId}
 use Rattle.rule_terms.specs.System.{inputs_of}
 use Rattle.dep_graph.specs.Graph.{row_at}

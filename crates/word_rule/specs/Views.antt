@@ -1,5 +1,5 @@
 -- What a seat knows: its table, its number, and its seat of the core machine.
-use Rattle.std.specs.Prelude.{ℕ, zero, suc, ◌+◌, Bool, true, ◌&&◌, List, [], ◌∷◌, ◌++◌, length, Option, Some, None}
+use Rattle.std.specs.Prelude.{ℕ, zero, suc, ◌+◌, Bool, true, ◌&&◌, List, [], ◌∷◌, length, Option, Some, None}
 use Rattle.attr_ids.specs.declared.ids.PosId.{PosId}
 use Rattle.rule_terms.specs.Names.{has_name}
 use Rattle.rule_terms.specs.System.{System, with_masks}
@@ -46,23 +46,23 @@ owed_in (Owes list) = list
 -- ---- views
 -- the view of the first seat
 abbrev pub first_view : Key → View
-first_view k = record { about = Some k; number = 0; core = new_seat; made = 1; joined = [] }
+first_view k = record { about = Some k; number = 0; core = new_seat; found = 0; made = 1; joined = [] }
 
 -- what is left to a seat that was joined away
 abbrev pub spent : View
-spent = record { about = None; number = 0; core = new_seat; made = 0; joined = [] }
+spent = record { about = None; number = 0; core = new_seat; found = 0; made = 0; joined = [] }
 
--- the view with another seat of the core machine
-abbrev pub with_core : View → CoreSeat → View
-with_core v c = record { about = v.about; number = v.number; core = c; made = v.made; joined = v.joined }
+-- the view after a step that found this word, and left the seat of the core machine so
+abbrev pub stepped_to : View → ℕ → CoreSeat → View
+stepped_to v word c = record { about = v.about; number = v.number; core = c; found = word; made = v.made; joined = v.joined }
 
 -- seat 0 once it made another seat
 abbrev pub after_making : View → View
-after_making v = record { about = v.about; number = v.number; core = v.core; made = v.made + 1; joined = v.joined }
+after_making v = record { about = v.about; number = v.number; core = v.core; found = v.found; made = v.made + 1; joined = v.joined }
 
 -- the seat that it made: the next number, idle, with nothing known or counted
 abbrev pub next_view : View → View
-next_view v = record { about = v.about; number = v.made; core = new_seat; made = 0; joined = [] }
+next_view v = record { about = v.about; number = v.made; core = new_seat; found = 0; made = 0; joined = [] }
 
 -- whether the list names every position below the count
 abbrev pub knows_all : ℕ → List PosId → Bool
@@ -79,6 +79,7 @@ after_joining v w = record {
   about = v.about;
   number = v.number;
   core = record { mode = v.core.mode; known = v.core.known; took = v.core.took + w.core.took; told = v.core.told + w.core.told };
+  found = v.found;
   made = v.made;
   joined = joined_as w ∷ v.joined;
 }

@@ -1,11 +1,10 @@
-ghost use Rattle.std.specs.Prelude.{◌≡◌, ℕ, ◌+◌, ◌^◌, ◌<◌, ◌≤◌, [], true, false, length, All, IfOk, MatchOption, Some, vec_capacity, slice_get, ◌==◌, if◌then◌else◌, Contains};
-ghost use Rattle.rule_terms.specs.Slots.{input_at};
-ghost use Rattle.rule_terms.specs.System.{inputs_of, value_at, IsSystem};
-ghost use Rattle.dep_graph.specs.Graph.{row_at, budget_of};
+ghost use Rattle.std.specs.Prelude.{◌≡◌, ◌+◌, ◌^◌, ◌<◌, ◌≤◌, true, false, length, MatchOption, Some, slice_get, ◌==◌, if◌then◌else◌, Contains};
+ghost use Rattle.rule_terms.specs.System.{inputs_of, value_at};
+ghost use Rattle.dep_graph.specs.Graph.{budget_of};
 ghost use Rattle.fix_core.specs.declared.state.CoreMode.TheVariants.{Idle};
 ghost use Rattle.fix_core.specs.Machine.{facts_of, dirty_at, is_clean, lost_by, has_all, values_of, after_take, after_look, after_cut, after_tell, after_clear};
 ghost use Rattle.word_rule.specs.Views.{opened, looked_in, owed_in};
-ghost use Rattle.word_rule.specs.Belongs.{core_of, number_of, system_in, graph_in, IsSeatOf, IsSameSeat, IsOpen};
+ghost use Rattle.word_rule.specs.Belongs.{core_of, number_of, found_by, system_in, graph_in, IsSeatOf, IsSameSeat, IsOpen};
 
 use crate::lists::{clear_to, owe, strike};
 use crate::plays::{ClearStep, CutStep, LookStep, TakeStep, TellStep};
@@ -38,7 +37,8 @@ impl<'s> LatticeWords<'s> {
         requires idle { (core_of seat.old).mode ≡ Idle }
         requires position { p.0 < length (system_in self.now).masks }
         ensures same { IsSameSeat seat.old seat.new }
-        ensures took { (word : ℕ) × (core_of seat.new ≡ after_take (system_in self.now) p word (core_of seat.old)) × MatchOption result (is_clean word ≡ true) (λ facts. (is_clean word ≡ false) × (facts ≡ facts_of word)) }
+        ensures took { core_of seat.new ≡ after_take (system_in self.now) p (found_by seat.new) (core_of seat.old) }
+        ensures answer { MatchOption result (is_clean (found_by seat.new) ≡ true) (λ facts. (is_clean (found_by seat.new) ≡ false) × (facts ≡ facts_of (found_by seat.new))) }
         ensures budget { (core_of seat.new).took ≤ budget_of (system_in self.now) (graph_in self.now) }
     {
         let word = self
@@ -59,7 +59,8 @@ impl<'s> LatticeWords<'s> {
         requires open { IsOpen (core_of seat.old).mode }
         requires input { i < length (inputs_of (system_in self.now) (opened (core_of seat.old).mode).0) }
         ensures same { IsSameSeat seat.old seat.new }
-        ensures looked { (word : ℕ) × (core_of seat.new ≡ after_look (opened (core_of seat.old).mode) (looked_in (core_of seat.old).mode) i word (core_of seat.old)) × (result ≡ facts_of word) }
+        ensures looked { core_of seat.new ≡ after_look (opened (core_of seat.old).mode) (looked_in (core_of seat.old).mode) i (found_by seat.new) (core_of seat.old) }
+        ensures answer { result ≡ facts_of (found_by seat.new) }
     {
         let Some(p) = seat.place else { unreachable!() };
         let input = self.system.inputs(p).as_slice()[i as usize];
@@ -91,7 +92,8 @@ impl<'s> LatticeWords<'s> {
         requires all { has_all (looked_in (core_of seat.old).mode) ≡ true }
         requires value { new ≡ value_at (system_in self.now) (opened (core_of seat.old).mode).0 (values_of (looked_in (core_of seat.old).mode)) }
         ensures same { IsSameSeat seat.old seat.new }
-        ensures cut { (word : ℕ) × (core_of seat.new ≡ after_cut (graph_in self.now) (opened (core_of seat.old).mode) new word (core_of seat.old)) × (result ≡ lost_by new word) }
+        ensures cut { core_of seat.new ≡ after_cut (graph_in self.now) (opened (core_of seat.old).mode) new (found_by seat.new) (core_of seat.old) }
+        ensures answer { result ≡ lost_by new (found_by seat.new) }
     {
         let Some(p) = seat.place else { unreachable!() };
         let word = self
@@ -118,7 +120,8 @@ impl<'s> LatticeWords<'s> {
         requires of { IsSeatOf self.now seat.old }
         requires owed { Contains (owed_in (core_of seat.old).mode) d }
         ensures same { IsSameSeat seat.old seat.new }
-        ensures told { (word : ℕ) × (core_of seat.new ≡ after_tell (number_of seat.old) d (owed_in (core_of seat.old).mode) word (core_of seat.old)) × (result ≡ (dirty_at word (number_of seat.old) == 0)) }
+        ensures told { core_of seat.new ≡ after_tell (number_of seat.old) d (owed_in (core_of seat.old).mode) (found_by seat.new) (core_of seat.old) }
+        ensures answer { result ≡ (dirty_at (found_by seat.new) (number_of seat.old) == 0) }
     {
         let place = 48 + seat.number;
         let word = self
@@ -135,7 +138,8 @@ impl<'s> LatticeWords<'s> {
         requires idle { (core_of seat.old).mode ≡ Idle }
         requires position { p.0 < length (system_in self.now).masks }
         ensures same { IsSameSeat seat.old seat.new }
-        ensures cleared { (word : ℕ) × (core_of seat.new ≡ (if dirty_at word (number_of seat.old) == 0 then after_clear p (core_of seat.old) else core_of seat.old)) × (result ≡ (dirty_at word (number_of seat.old) == 0)) }
+        ensures cleared { core_of seat.new ≡ (if dirty_at (found_by seat.new) (number_of seat.old) == 0 then after_clear p (core_of seat.old) else core_of seat.old) }
+        ensures answer { result ≡ (dirty_at (found_by seat.new) (number_of seat.old) == 0) }
     {
         let word = self
             .table

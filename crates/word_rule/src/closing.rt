@@ -1,19 +1,16 @@
-ghost use Rattle.std.specs.Prelude.{◌≡◌, ◌<◌, ◌≤◌, [], ◌∷◌, ◌++◌, length, map, take, All, sum_by, vec_capacity};
+ghost use Rattle.std.specs.Prelude.{◌≡◌, ◌<◌, ◌≤◌, [], length, map, take, All, sum_by, vec_capacity};
 ghost use Rattle.std.specs.Mem.Slots.{slots_items, slots_len, IsFull};
-ghost use mathlib.Core.Option.{some};
-ghost use lib.ListN.{get_elem?};
-ghost use Rattle.atomic_table.specs.Table.{State};
 ghost use Rattle.rule_terms.specs.Greatest.{AreWithin, IsAbove, IsGreatest};
 ghost use Rattle.dep_graph.specs.Graph.{budget_of};
 ghost use Rattle.fix_core.specs.declared.state.CoreMode.TheVariants.{Idle};
 ghost use Rattle.fix_core.specs.Machine.{facts_of};
 ghost use Rattle.word_rule.specs.Views.{after_joining};
 ghost use Rattle.word_rule.specs.Ends.{Ended, HasTaken};
-ghost use Rattle.word_rule.specs.Belongs.{core_of, number_of, system_in, graph_in, workers_in, IsSeatOf, AreSeatsOf, KnowsAll};
+ghost use Rattle.word_rule.specs.Belongs.{core_of, number_of, system_in, graph_in, IsSeatOf, AreSeatsOf, KnowsAll};
 
 use crate::calls::FACTS;
 use crate::seat::{WorkerSeat, WorkerSeats};
-use crate::view::{Joining, View};
+use crate::view::Joining;
 use crate::words::LatticeWords;
 use atomic_table::{Closed, Seat};
 use attr_ids::WordList;

@@ -1,4 +1,4 @@
-ghost use Rattle.std.specs.Prelude.{◌≡◌, ◌≢◌, ◌^◌, ◌<◌, ◌≤◌, ◌+◌, ◌∷◌, length, drop, replicate, AllPairs, Contains, vec_capacity, vec_len};
+ghost use Rattle.std.specs.Prelude.{◌≡◌, ◌≢◌, ◌^◌, ◌<◌, ◌≤◌, ◌+◌, ◌∷◌, length, drop, replicate, AllPairs, Contains, vec_capacity};
 ghost use Rattle.dep_graph.specs.Graph.{row_at};
 ghost use Rattle.fix_core.specs.Machine.{owed_by, without};
 

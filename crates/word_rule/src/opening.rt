@@ -1,10 +1,10 @@
-ghost use Rattle.std.specs.Prelude.{◌≡◌, ℕ, ◌<◌, ◌≤◌, [], ◌∷◌, ◌++◌, length, map, IfOk, Some, All, vec_capacity};
-ghost use Rattle.rule_terms.specs.System.{inputs_of, IsSystem};
+ghost use Rattle.std.specs.Prelude.{◌≡◌, ℕ, ◌<◌, ◌≤◌, [], ◌∷◌, ◌++◌, length, IfOk, All};
+ghost use Rattle.rule_terms.specs.System.{inputs_of};
 ghost use Rattle.dep_graph.specs.Graph.{row_at, IsGraphOf};
 ghost use Rattle.fix_core.specs.Machine.{new_seat, opening_words};
 ghost use Rattle.word_rule.specs.Views.{first_view};
 ghost use Rattle.word_rule.specs.Seats.{most_inputs, most_dependents};
-ghost use Rattle.word_rule.specs.Belongs.{core_of, number_of, system_in, graph_in, workers_in, AreSeatsOf};
+ghost use Rattle.word_rule.specs.Belongs.{core_of, system_in, graph_in, workers_in, AreSeatsOf};
 
 use crate::seat::{WorkerSeat, WorkerSeats};
 use crate::view::{Key, Making, View};

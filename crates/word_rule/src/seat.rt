@@ -1,4 +1,4 @@
-ghost use Rattle.std.specs.Prelude.{◌≡◌, ℕ, ◌<◌, ◌≤◌, [], length, drop, Some, Contains, vec_capacity};
+ghost use Rattle.std.specs.Prelude.{◌≡◌, ◌<◌, ◌≤◌, [], length, drop, Some, Contains, vec_capacity};
 ghost use Rattle.attr_ids.specs.declared.ids.PosId.{PosId as Position};
 ghost use Rattle.fix_core.specs.Machine.{values_of};
 ghost use Rattle.word_rule.specs.Seats.{place_in, position_count, input_count, most_inputs, most_dependents};

@@ -21,12 +21,14 @@ pub struct Joined {
     pub marked: bool,
 }
 
-/// What one seat knows: the table that it belongs to, or `None` once it was joined away, its number, and its
-/// state in the core machine. Seat 0 also knows how many seats were made, and which were joined away.
+/// What one seat knows: the table that it belongs to, or `None` once it was joined away, its number, its state in
+/// the core machine, and the word that its last step found. Seat 0 also knows how many seats were made, and which
+/// were joined away.
 pub struct View {
     pub about: Option<Key>,
     pub number: u8,
     pub core: CoreSeat,
+    pub found: u64,
     pub made: u8,
     pub joined: LinkedList<Joined>,
 }

@@ -1,4 +1,4 @@
-use Rattle.std.proofs.Common.{◌≡◌, ◌≤◌, map, take, length}
+use Rattle.std.proofs.Common.{◌≡◌, map, take, length}
 use Rattle.std.specs.Prelude.{vec_capacity}
 use Rattle.std.specs.Mem.Slots.{slots_items}
 use Rattle.fix_core.specs.Machine.{facts_of}

@@ -1,4 +1,4 @@
-use Rattle.std.proofs.Common.{◌≡◌, ◌≤◌, ◌-◌, length, drop, Contains}
+use Rattle.std.proofs.Common.{◌≤◌, ◌-◌, length, drop, Contains}
 use Rattle.word_rule.proofs.lists.find.Given as goal
 
 abbrev pub invariant-loop-at : goal.invariant-loop-at

@@ -1,4 +1,4 @@
-use Rattle.std.proofs.Common.{◌≡◌, ◌≤◌, take}
+use Rattle.std.proofs.Common.{◌≡◌, take}
 use Rattle.fix_core.specs.Machine.{opening_words}
 use Rattle.word_rule.proofs.opening.opening_list.Given as goal
 

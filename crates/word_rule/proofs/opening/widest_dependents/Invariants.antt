@@ -1,4 +1,4 @@
-use Rattle.std.proofs.Common.{◌≡◌, ℕ, ◌<◌, ◌≤◌, length}
+use Rattle.std.proofs.Common.{ℕ, ◌<◌, ◌≤◌, length}
 use Rattle.dep_graph.specs.Graph.{row_at}
 use Rattle.word_rule.proofs.opening.widest_dependents.Given as goal
 

@@ -1,4 +1,4 @@
-use Rattle.std.proofs.Common.{◌≡◌, ℕ, ◌<◌, ◌≤◌, length}
+use Rattle.std.proofs.Common.{ℕ, ◌<◌, ◌≤◌, length}
 use Rattle.rule_terms.specs.System.{inputs_of}
 use Rattle.word_rule.proofs.opening.widest_inputs.Given as goal
 

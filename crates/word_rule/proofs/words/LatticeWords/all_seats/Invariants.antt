@@ -1,4 +1,4 @@
-use Rattle.std.proofs.Common.{◌≡◌, ◌+◌, ℕ, suc, [], List, length, slice_get, Some}
+use Rattle.std.proofs.Common.{◌≡◌, ◌+◌, ℕ, suc, [], length, slice_get, Some}
 use Rattle.fix_core.specs.Machine.{new_seat}
 use Rattle.word_rule.specs.declared.seat.WorkerSeat.{WorkerSeat}
 use Rattle.word_rule.specs.Belongs.{core_of, number_of, IsSeatOf}

@@ -1,4 +1,4 @@
-use Rattle.std.proofs.Common.{◌≡◌, ◌+◌, ◌<◌, [], List, length, Some, Contains, ap, sym, refl, ◌∙◌, subst, arith}
+use Rattle.std.proofs.Common.{◌<◌, List, Contains, ap, sym, ◌∙◌, subst, arith}
 use Rattle.word_rule.specs.Plays.{Mine}
 use Rattle.word_rule.specs.Seats.{place_in, position_count}
 use Rattle.word_rule.specs.Views.{owed_in}

@@ -1,6 +1,6 @@
-use Rattle.std.proofs.Common.{◌≡◌, ◌+◌, ◌<◌, ℕ, suc, [], ◌∷◌, ◌++◌, List, length, ap, sym, ◌∙◌, subst, arith}
+use Rattle.std.proofs.Common.{◌≡◌, ◌<◌, suc, [], ◌∷◌, ◌++◌, List, length, ap, sym, ◌∙◌, subst, arith}
 use Rattle.word_rule.specs.declared.seat.WorkerSeat.{WorkerSeat}
-use Rattle.word_rule.proofs.Gathering.{AreGathered, gathers, gathers_next, gathered_all, next_of, next_place, idle_at, first_rest}
+use Rattle.word_rule.proofs.Gathering.{AreGathered, gathers, gathers_next, next_of, next_place, idle_at, first_rest}
 use Rattle.word_rule.proofs.words.LatticeWords.join_all.Goals as goal
 
 pub loop-other-init : goal.loop-other-init

@@ -1,14 +1,13 @@
-use Rattle.std.proofs.Common.{rules, ◌≡◌, ℕ, ◌+◌, ◌<◌, ◌≤◌, List, length, replicate, Option, Some, None, ap, sym, ◌∙◌, subst, ne_eqb, arith}
+use Rattle.std.proofs.Common.{◌≡◌, ℕ, ◌<◌, ◌≤◌, List, length, replicate, Option, Some, None, ap, sym, ◌∙◌, subst, ne_eqb, arith}
 use Rattle.std.specs.Prelude.{vec_capacity}
 use Rattle.std.proofs.lemmas.List.{length-replicate}
 use Rattle.attr_ids.specs.declared.ids.PosId.{PosId}
 use Rattle.rule_terms.specs.System.{System, inputs_of}
-use Rattle.fix_core.specs.declared.state.CoreMode.{CoreMode}
 use Rattle.fix_core.specs.declared.state.CoreMode.TheVariants.{Open}
-use Rattle.fix_core.specs.Machine.{is_clean, values_of}
+use Rattle.fix_core.specs.Machine.{values_of}
 use Rattle.word_rule.specs.declared.view.Key.{Key}
 use Rattle.word_rule.specs.declared.view.View.{View}
-use Rattle.word_rule.specs.Views.{system_of, looked_in, owed_in}
+use Rattle.word_rule.specs.Views.{system_of, looked_in}
 use Rattle.word_rule.specs.Seats.{place_in, most_inputs}
 use Rattle.word_rule.proofs.Steps.{takes}
 use Rattle.word_rule.proofs.Remembering.{no_values, takes_up}
