@@ -5,15 +5,15 @@ use Rattle.fix_core.specs.declared.state.CoreMode.TheVariants.{Idle}
 use Rattle.word_rule.specs.declared.seat.WorkerSeat.{WorkerSeat}
 use Rattle.word_rule.specs.declared.words.LatticeWords.{LatticeWords}
 use Rattle.word_rule.specs.declared.view.View.{View}
-use Rattle.word_rule.specs.Views.{with_core}
-use Rattle.word_rule.specs.Belongs.{core_of, IsSeatOf, IsSameSeat}
+use Rattle.word_rule.specs.Views.{stepped_to}
+use Rattle.word_rule.specs.Belongs.{core_of, found_by, IsSeatOf, IsSameSeat}
 use Rattle.workers.specs.Workers.{IsReady, HasTaken}
 
 pub same_here : (seat : WorkerSeat) → IsSameSeat seat seat
 same_here seat = (refl, refl)
 
 pub same_then : (a b c : WorkerSeat) → IsSameSeat a b → IsSameSeat b c → IsSameSeat a c
-same_then a b c first second = (second.0 ∙ first.0, second.1 ∙ ap (λ (v : View). with_core v (core_of c)) first.1)
+same_then a b c first second = (second.0 ∙ first.0, second.1 ∙ ap (λ (v : View). stepped_to v (found_by c) (core_of c)) first.1)
 
 pub seat_again : (words : LatticeWords) (a b : WorkerSeat) → IsSameSeat a b → IsSeatOf words a → IsSeatOf words b
 seat_again words a b same of = (same.0 ∙ of.0, ap (λ (v : View). v.about) same.1 ∙ of.1)

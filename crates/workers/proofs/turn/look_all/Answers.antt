@@ -2,7 +2,7 @@ use Rattle.std.proofs.Common.{◌≡◌, ◌+◌, ◌<◌, ◌≤◌, length, ap
 use Rattle.rule_terms.specs.System.{System, inputs_of}
 use Rattle.dep_graph.proofs.Naming.{inputs_few}
 use Rattle.fix_core.specs.declared.state.CoreSeat.{CoreSeat}
-use Rattle.word_rule.specs.Belongs.{core_of, system_in}
+use Rattle.word_rule.specs.Belongs.{core_of, found_by, system_in}
 use Rattle.workers.proofs.Seating.{same_then}
 use Rattle.workers.proofs.Looking.{stays_open, looks_more}
 use Rattle.workers.proofs.turn.look_all.Goals as goal
@@ -24,7 +24,7 @@ loop-i-preserved c =
     let inside : c.loop-i.i < length (inputs_of s c.args.p.0) = omega (arith, c.loop-i-test.true, width) in (
       omega (arith, c.loop-i-test.true),
       same_then c.args.seat.now c.loop-i.seat c.look.new.seat c.loop-i.invariant.1 c.look.ensures.same,
-      stays_open s c.args.p old new c.loop-i.i c.look.ensures.looked.0 has c.look.ensures.looked.1,
-      looks_more s c.args.p old new c.loop-i.i c.look.ensures.looked.0 has inside c.look.ensures.looked.1 c.loop-i.invariant.3,
-      ap (λ (x : CoreSeat). x.took) c.look.ensures.looked.1 ∙ c.loop-i.invariant.4,
+      stays_open s c.args.p old new c.loop-i.i (found_by c.look.new.seat) has c.look.ensures.looked,
+      looks_more s c.args.p old new c.loop-i.i (found_by c.look.new.seat) has inside c.look.ensures.looked c.loop-i.invariant.3,
+      ap (λ (x : CoreSeat). x.took) c.look.ensures.looked ∙ c.loop-i.invariant.4,
     )

@@ -1,6 +1,6 @@
 use Rattle.std.proofs.Common.{◌≡◌, ◌<◌, ap, sym, ◌∙◌, subst, arith}
 use Rattle.word_rule.specs.Views.{owed_in}
-use Rattle.word_rule.specs.Belongs.{core_of, number_of, IsSeatOf}
+use Rattle.word_rule.specs.Belongs.{core_of, number_of, found_by, IsSeatOf}
 use Rattle.workers.specs.Workers.{count_in}
 use Rattle.workers.proofs.Seating.{seat_again}
 use Rattle.workers.proofs.Telling.{first_owed, owed_inside, owes_less}
@@ -18,10 +18,10 @@ pub loop-d-smaller-then-tell : goal.loop-d-smaller-then-tell
 loop-d-smaller-then-tell c =
     let old = core_of c.loop-d.seat in
     let has = first_owed (owed_in old.mode) c.in-Some.d (sym c.owed.ensures ∙ c.in-Some.is) in
-    owes_less (number_of c.loop-d.seat) c.in-Some.d c.tell.ensures.told.0 old (core_of c.tell.new.seat) has c.tell.ensures.told.1
+    owes_less (number_of c.loop-d.seat) c.in-Some.d (found_by c.tell.new.seat) old (core_of c.tell.new.seat) has c.tell.ensures.told
 
 pub loop-d-smaller : goal.loop-d-smaller
 loop-d-smaller c =
     let old = core_of c.loop-d.seat in
     let has = first_owed (owed_in old.mode) c.in-Some.d (sym c.owed.ensures ∙ c.in-Some.is) in
-    owes_less (number_of c.loop-d.seat) c.in-Some.d c.tell.ensures.told.0 old (core_of c.tell.new.seat) has c.tell.ensures.told.1
+    owes_less (number_of c.loop-d.seat) c.in-Some.d (found_by c.tell.new.seat) old (core_of c.tell.new.seat) has c.tell.ensures.told
