@@ -54,7 +54,7 @@ pub(crate) fn crews_of(
 }
 
 /// Runs one worker.
-fn run_crew<G: Gate>(words: &LatticeWords, crew: &mut Crew, turns: u64, gate: &G)
+pub(crate) fn run_crew<G: Gate>(words: &LatticeWords, crew: &mut Crew, turns: u64, gate: &G)
     requires { IsCrewOf words.now crew.old }
     ensures { HasRun words.now turns crew.old crew.new }
 {

@@ -13,3 +13,6 @@ mod worker;
 
 pub use run::{Ran, run_all};
 pub use worker::run_worker;
+
+#[cfg(test)]
+mod tests;
