@@ -1,5 +1,5 @@
 -- All workers, before their runs and after them.
-use Rattle.std.proofs.Common.{◌≡◌, ℕ, zero, suc, ◌+◌, ◌*◌, ◌<◌, ◌≤◌, cond, List, [], ◌∷◌, map, length, get_or, slice_get, slice_index_or, All, Option, Some, None, unwrap_or, sum_by, count_by, refl, ap, sym, ◌∙◌, subst, arith, suc-mul}
+use Rattle.std.proofs.Common.{◌≡◌, ℕ, zero, suc, ◌+◌, ◌*◌, ◌<◌, ◌≤◌, cond, List, [], ◌∷◌, map, length, get_or, slice_get, slice_index_or, All, Option, Some, unwrap_or, sum_by, refl, ap, sym, ◌∙◌, subst, arith, suc-mul}
 use Rattle.std.proofs.lemmas.List.{length-map}
 use Rattle.std.proofs.lemmas.List.Sums.{sum_by-cons, get_or-le-sum_by}
 use Rattle.std.proofs.lemmas.Option.{none-some, same_Some, slice_get_within, slice_get-get_or, unwrap_or-slice_get}
@@ -12,13 +12,13 @@ use Rattle.fix_core.specs.Machine.{new_seat}
 use Rattle.steal_pool.specs.declared.hints.Log.{Log}
 use Rattle.steal_pool.specs.declared.pool.OwnPool.{OwnPool}
 use Rattle.steal_pool.specs.declared.robber.Robber.{Robber}
-use Rattle.steal_pool.specs.Pools.{own_log, own_deque, door_log, door_deque, robber_logs, RobsAll, IsFreshPool, AreFresh}
+use Rattle.steal_pool.specs.Pools.{own_deque, door_log, door_deque, RobsAll, IsFreshPool, AreFresh}
 use Rattle.word_rule.specs.declared.seat.WorkerSeat.{WorkerSeat}
 use Rattle.word_rule.specs.declared.words.LatticeWords.{LatticeWords}
 use Rattle.word_rule.specs.declared.view.View.{View}
 use Rattle.word_rule.specs.Belongs.{core_of, number_of, system_in, workers_in, IsSeatOf, AreSeatsOf, KnowsAll}
 use Rattle.workers.specs.declared.crew.Crew.{Crew}
-use Rattle.workers.specs.Workers.{count_in, IsReady, IsPoolOf, IsRobberOf}
+use Rattle.workers.specs.Workers.{count_in, IsRobberOf}
 use Rattle.workers.specs.Crews.{IsCrewOf, HasRun, is_spent, spent_count}
 use Rattle.workers.proofs.Seating.{seat_again}
 
@@ -54,7 +54,7 @@ crews_begin words crews seats fresh made k d l =
     let new = subst (λ (s : WorkerSeat). core_of s ≡ new_seat) (stands (map (λ (x : Crew). x.seat) crews) k crew.seat crew.seat seat_at) (fresh k crew.seat (slice_get_within (map (λ (x : Crew). x.seat) crews) k crew.seat seat_at)) in
     let pool = subst (IsFreshPool (count_in words)) (stands (map (λ (x : Crew). x.own) crews) k crew.own crew.own own_at) (made.pools_fresh k crew.own (slice_get_within (map (λ (x : Crew). x.own) crews) k crew.own own_at)) in
     let robs = subst (RobsAll (map own_deque (map (λ (x : Crew). x.own) crews)) (count_in words)) (stands (map (λ (x : Crew). x.robber) crews) k crew.robber crew.robber robber_at)
-        (made.robbers_fresh k crew.robber (slice_get_within (map (λ (x : Crew). x.robber) crews) k crew.robber robber_at)) in record {
+    (made.robbers_fresh k crew.robber (slice_get_within (map (λ (x : Crew). x.robber) crews) k crew.robber robber_at)) in record {
       ready = ((seats.each k crew.seat seat_at).0, ap (λ (c : CoreSeat). c.mode) new);
       pool = ap (λ (v : Log). v.count) pool;
       robber = robber_is (workers_in words) (count_in words) (map (λ (x : Crew). x.own) crews) crew.robber made.pools_counted robs;
@@ -66,7 +66,7 @@ pub crews_made : (words : LatticeWords) (s : System) (workers count : ℕ) (crew
 crews_made words s workers count crews seats pools robbers of fresh made system many positions seats_are pools_are robbers_are =
     let same : count ≡ count_in words = positions ∙ ap (λ (x : System). length x.masks) (sym system) in
     crews_begin words crews (subst (AreSeatsOf words) (sym seats_are) of) (subst (λ (xs : List WorkerSeat). All (λ seat. core_of seat ≡ new_seat) xs) (sym seats_are) fresh)
-        (subst (λ (y : ℕ × ℕ × List OwnPool × List Robber). AreFresh y.0 y.1 y.2 y.3) (λ j. (sym many j, same j, sym pools_are j, sym robbers_are j)) made)
+    (subst (λ (y : ℕ × ℕ × List OwnPool × List Robber). AreFresh y.0 y.1 y.2 y.3) (λ j. (sym many j, same j, sym pools_are j, sym robbers_are j)) made)
 
 -- ---- after
 -- each worker has run

@@ -1,7 +1,5 @@
 -- A seat that a worker goes on with.
-use Rattle.std.proofs.Common.{◌≡◌, ℕ, ◌+◌, refl, ap, sym, ◌∙◌, arith}
-use Rattle.fix_core.specs.declared.state.CoreSeat.{CoreSeat}
-use Rattle.fix_core.specs.declared.state.CoreMode.TheVariants.{Idle}
+use Rattle.std.proofs.Common.{ℕ, ◌+◌, refl, ap, ◌∙◌, arith}
 use Rattle.word_rule.specs.declared.seat.WorkerSeat.{WorkerSeat}
 use Rattle.word_rule.specs.declared.words.LatticeWords.{LatticeWords}
 use Rattle.word_rule.specs.declared.view.View.{View}

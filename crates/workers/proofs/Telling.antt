@@ -1,5 +1,5 @@
 -- Telling the positions that a seat owes.
-use Rattle.std.proofs.Common.{◌≡◌, ℕ, ◌+◌, ◌<◌, ◌≤◌, List, length, Option, Some, slice_get, Contains, unwrap_or, ap, sym, ◌∙◌, subst, arith}
+use Rattle.std.proofs.Common.{◌≡◌, ℕ, ◌<◌, List, length, Option, Some, slice_get, Contains, unwrap_or, ap, sym, ◌∙◌, arith}
 use Rattle.std.proofs.lemmas.Option.{slice_get_within, unwrap_or-slice_get}
 use Rattle.attr_ids.specs.declared.ids.PosId.{PosId}
 use Rattle.fix_core.specs.declared.state.CoreSeat.{CoreSeat}

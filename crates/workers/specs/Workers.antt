@@ -7,7 +7,7 @@ use Rattle.fix_core.specs.declared.state.CoreMode.TheVariants.{Idle, Open}
 use Rattle.word_rule.specs.declared.seat.WorkerSeat.{WorkerSeat}
 use Rattle.word_rule.specs.declared.words.LatticeWords.{LatticeWords}
 use Rattle.word_rule.specs.Views.{looked_in}
-use Rattle.word_rule.specs.Belongs.{core_of, system_in, workers_in, IsSeatOf, IsSameSeat}
+use Rattle.word_rule.specs.Belongs.{core_of, system_in, IsSeatOf, IsSameSeat}
 use Rattle.steal_pool.specs.declared.pool.OwnPool.{OwnPool}
 use Rattle.steal_pool.specs.declared.robber.Robber.{Robber}
 use Rattle.steal_pool.specs.Pools.{own_log, robber_logs}

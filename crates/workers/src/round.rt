@@ -97,12 +97,7 @@ fn visit<G: Gate>(
 
 /// Looks through all words for the seat's own dirty bits, and takes up the words that have one. Where there was
 /// none, the seat knows every position.
-fn scan<G: Gate>(
-    shift: &Shift<G>,
-    seat: &mut WorkerSeat,
-    own: &mut OwnPool,
-    mut taken: u64,
-) -> u64
+fn scan<G: Gate>(shift: &Shift<G>, seat: &mut WorkerSeat, own: &mut OwnPool, mut taken: u64) -> u64
     requires ready { IsReady shift.now.words.now seat.old }
     requires pool { IsPoolOf (count_in shift.now.words.now) own.old }
     requires turns { taken < shift.now.turns }

@@ -124,6 +124,9 @@ fn two_workers_come_to_the_greatest_words(rt: HostRuntime) -> Result<(), Fail> {
     let graph = dependents(rt.alloc(), &system)?;
     let ran = run_all(&rt, rt.alloc(), &system, &graph, 2, 100, &Still)?;
     assert_eq!(rt; ran.words.as_slice(), [0b10, 0b10, 0b10].as_slice());
-    assert_eq!(rt; ran.ends.as_slice(), [WorkerEnd::Done, WorkerEnd::Done].as_slice());
+    assert_eq!(rt;
+        ran.ends.as_slice(),
+        [WorkerEnd::Done, WorkerEnd::Done].as_slice()
+    );
     Ok(())
 }

@@ -59,13 +59,7 @@ fn tell_all(words: &LatticeWords, seat: &mut WorkerSeat, own: &mut OwnPool)
 }
 
 /// One turn with the position that the seat took up. The gate hears of it before the first look.
-fn turn<G: Gate>(
-    shift: &Shift<G>,
-    seat: &mut WorkerSeat,
-    own: &mut OwnPool,
-    p: PosId,
-    number: u64,
-)
+fn turn<G: Gate>(shift: &Shift<G>, seat: &mut WorkerSeat, own: &mut OwnPool, p: PosId, number: u64)
     requires of { IsSeatOf shift.now.words.now seat.old }
     requires position { p.0 < count_in shift.now.words.now }
     requires open { HasOpen (system_in shift.now.words.now) p (core_of seat.old) }

@@ -1,7 +1,5 @@
-use Rattle.std.proofs.Common.{◌≡◌, ◌≤◌, ℕ, ◌<◌, Contains}
-use Rattle.word_rule.specs.Views.{position}
-use Rattle.word_rule.specs.Belongs.{core_of, workers_in}
-use Rattle.workers.specs.Workers.{count_in, IsPoolOf, IsRobberOf, HasTaken}
+use Rattle.std.proofs.Common.{◌≤◌}
+use Rattle.workers.specs.Workers.{count_in, IsPoolOf, HasTaken}
 use Rattle.workers.proofs.round.draw_hints.Given as goal
 
 abbrev pub invariant-loop : goal.invariant-loop

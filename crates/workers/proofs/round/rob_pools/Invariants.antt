@@ -1,6 +1,5 @@
-use Rattle.std.proofs.Common.{◌≡◌, ◌≤◌, ℕ, ◌<◌, Contains}
-use Rattle.word_rule.specs.Views.{position}
-use Rattle.word_rule.specs.Belongs.{core_of, workers_in}
+use Rattle.std.proofs.Common.{◌≤◌}
+use Rattle.word_rule.specs.Belongs.{workers_in}
 use Rattle.workers.specs.Workers.{count_in, IsPoolOf, IsRobberOf, HasTaken}
 use Rattle.workers.proofs.round.rob_pools.Given as goal
 

@@ -1,7 +1,7 @@
 use Rattle.std.proofs.Common.{◌≡◌, ◌≤◌, ℕ, ◌<◌, Contains}
 use Rattle.word_rule.specs.Views.{position}
-use Rattle.word_rule.specs.Belongs.{core_of, workers_in}
-use Rattle.workers.specs.Workers.{count_in, IsPoolOf, IsRobberOf, HasTaken}
+use Rattle.word_rule.specs.Belongs.{core_of}
+use Rattle.workers.specs.Workers.{count_in, IsPoolOf, HasTaken}
 use Rattle.workers.proofs.round.scan.Given as goal
 
 abbrev pub invariant-loop-p : goal.invariant-loop-p

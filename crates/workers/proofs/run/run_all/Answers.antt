@@ -1,9 +1,8 @@
-use Rattle.std.proofs.Common.{◌≡◌, ◌*◌, ◌<◌, ◌≤◌, ℕ, List, length, map, All, sum_by, ap, sym, ◌∙◌, subst, arith}
+use Rattle.std.proofs.Common.{◌≡◌, ◌*◌, ◌≤◌, ℕ, List, map, All, sum_by, ap, sym, ◌∙◌, subst, arith}
 use Rattle.attr_ids.specs.declared.status.WorkerEnd.{WorkerEnd}
 use Rattle.attr_ids.specs.declared.status.WorkerEnd.TheVariants.{Done}
 use Rattle.rule_terms.specs.System.{System}
 use Rattle.rule_terms.specs.Greatest.{AreWithin, IsAbove, IsGreatest}
-use Rattle.dep_graph.specs.declared.graph.Row.{Row}
 use Rattle.dep_graph.specs.Graph.{budget_of}
 use Rattle.fix_core.specs.declared.state.CoreMode.TheVariants.{Idle}
 use Rattle.fix_core.specs.Machine.{new_seat}
@@ -22,8 +21,8 @@ run_crews-requires-after_bounds g c κs within =
     let opened = c.in_ok-words.ensures in
     let crews = c.in_ok-crews.ensures in
     subst (All (IsCrewOf c.in_ok-words.words)) (sym c.as_mut_slice.ensures.value)
-        (crews_made c.in_ok-words.words c.args.s.now c.args.workers c.count.result c.in_ok-crews.crews.items c.in_ok-words.seats c.in_ok-pools.pools c.in_ok-pools.robbers
-            opened.seats opened.fresh c.in_ok-pools.ensures.fresh opened.words.0 opened.words.2 c.count.ensures.positions crews.seats crews.pools crews.robbers)
+    (crews_made c.in_ok-words.words c.args.s.now c.args.workers c.count.result c.in_ok-crews.crews.items c.in_ok-words.seats c.in_ok-pools.pools c.in_ok-pools.robbers
+    opened.seats opened.fresh c.in_ok-pools.ensures opened.words.0 opened.words.2 c.count.ensures.positions crews.seats crews.pools crews.robbers)
 
 pub close-requires-clause-seats : goal.close-requires-clause-seats
 close-requires-clause-seats g c =
@@ -58,7 +57,7 @@ returns-clause-greatest g c = λ done.
     let ends : c.in_ok-seats.ends ≡ map (λ crew. crew.end) new = c.in_ok-seats.ensures.ends ∙ ap (λ (xs : List Crew). map (λ crew. crew.end) xs) back in
     let know = crews_know words c.args.turns old new c.run_crews.ensures.long c.run_crews.ensures.ran (subst (λ (es : List WorkerEnd). All (λ end. end ≡ Done) es) ends done) in
     subst (λ (s : System). IsGreatest s c.close.result) c.in_ok-words.ensures.words.0
-        (c.close.ensures.greatest (subst (λ (xs : List WorkerSeat). All (KnowsAll (count_in words)) (map core_of xs)) (sym seats) know))
+    (c.close.ensures.greatest (subst (λ (xs : List WorkerSeat). All (KnowsAll (count_in words)) (map core_of xs)) (sym seats) know))
 
 pub returns-clause-budget : goal.returns-clause-budget
 returns-clause-budget g c =

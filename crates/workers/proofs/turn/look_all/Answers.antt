@@ -1,4 +1,4 @@
-use Rattle.std.proofs.Common.{◌≡◌, ◌+◌, ◌<◌, ◌≤◌, length, ap, ◌∙◌, sym, arith}
+use Rattle.std.proofs.Common.{◌≡◌, ◌<◌, ◌≤◌, length, ap, ◌∙◌, arith}
 use Rattle.rule_terms.specs.System.{System, inputs_of}
 use Rattle.dep_graph.proofs.Naming.{inputs_few}
 use Rattle.fix_core.specs.declared.state.CoreSeat.{CoreSeat}

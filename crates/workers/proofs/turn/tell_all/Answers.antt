@@ -1,7 +1,6 @@
-use Rattle.std.proofs.Common.{◌≡◌, ◌<◌, ap, sym, ◌∙◌, subst, arith}
+use Rattle.std.proofs.Common.{◌<◌, sym, ◌∙◌, subst}
 use Rattle.word_rule.specs.Views.{owed_in}
 use Rattle.word_rule.specs.Belongs.{core_of, number_of, found_by, IsSeatOf}
-use Rattle.workers.specs.Workers.{count_in}
 use Rattle.workers.proofs.Seating.{seat_again}
 use Rattle.workers.proofs.Telling.{first_owed, owed_inside, owes_less}
 use Rattle.workers.proofs.turn.tell_all.Goals as goal
