@@ -22,7 +22,7 @@ run_crews-requires-after_bounds g c κs within =
     let crews = c.in_ok-crews.ensures in
     subst (All (IsCrewOf c.in_ok-words.words)) (sym c.as_mut_slice.ensures.value)
     (crews_made c.in_ok-words.words c.args.s.now c.args.workers c.count.result c.in_ok-crews.crews.items c.in_ok-words.seats c.in_ok-pools.pools c.in_ok-pools.robbers
-    opened.seats opened.fresh c.in_ok-pools.ensures opened.words.0 opened.words.2 c.count.ensures.positions crews.seats crews.pools crews.robbers)
+    opened.seats opened.fresh c.in_ok-pools.ensures.fresh opened.words.0 opened.words.2 c.count.ensures.positions crews.seats crews.pools crews.robbers)
 
 pub close-requires-clause-seats : goal.close-requires-clause-seats
 close-requires-clause-seats g c =
