@@ -18,7 +18,8 @@ use Rattle.word_rule.specs.declared.words.LatticeWords.{LatticeWords}
 use Rattle.word_rule.specs.declared.view.View.{View}
 use Rattle.word_rule.specs.Belongs.{core_of, number_of, system_in, workers_in, IsSeatOf, AreSeatsOf, KnowsAll}
 use Rattle.workers.specs.declared.crew.Crew.{Crew}
-use Rattle.workers.specs.Workers.{count_in, IsRobberOf}
+use Rattle.workers.specs.Workers.{count_in}
+use Rattle.steal_pool.specs.Pools.{IsRobberOf}
 use Rattle.workers.specs.Crews.{IsCrewOf, HasRun, is_spent, spent_count}
 use Rattle.workers.proofs.Seating.{seat_again}
 

@@ -6,7 +6,8 @@ use Rattle.fix_core.specs.declared.state.CoreMode.TheVariants.{Idle}
 use Rattle.word_rule.specs.declared.words.LatticeWords.{LatticeWords}
 use Rattle.word_rule.specs.Belongs.{core_of, workers_in, IsSameSeat, KnowsAll}
 use Rattle.workers.specs.declared.crew.Crew.{Crew}
-use Rattle.workers.specs.Workers.{count_in, IsReady, IsPoolOf, IsRobberOf}
+use Rattle.workers.specs.Workers.{count_in, IsReady, IsPoolOf}
+use Rattle.steal_pool.specs.Pools.{IsRobberOf}
 
 -- a worker of this table that has nothing in hand
 pub record IsCrewOf (words : LatticeWords) (crew : Crew) : Type 0 where

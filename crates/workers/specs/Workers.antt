@@ -1,5 +1,5 @@
 -- What contracts say of a worker: its seat, its pool and its robber.
-use Rattle.std.specs.Prelude.{◌≡◌, ℕ, ◌+◌, length, All}
+use Rattle.std.specs.Prelude.{◌≡◌, ℕ, ◌+◌, length}
 use Rattle.attr_ids.specs.declared.ids.PosId.{PosId}
 use Rattle.rule_terms.specs.System.{System, inputs_of}
 use Rattle.fix_core.specs.declared.state.CoreSeat.{CoreSeat}
@@ -9,8 +9,7 @@ use Rattle.word_rule.specs.declared.words.LatticeWords.{LatticeWords}
 use Rattle.word_rule.specs.Views.{looked_in}
 use Rattle.word_rule.specs.Belongs.{core_of, system_in, IsSeatOf, IsSameSeat}
 use Rattle.steal_pool.specs.declared.pool.OwnPool.{OwnPool}
-use Rattle.steal_pool.specs.declared.robber.Robber.{Robber}
-use Rattle.steal_pool.specs.Pools.{own_log, robber_logs}
+use Rattle.steal_pool.specs.Pools.{own_log}
 
 -- how many positions a table has
 abbrev pub count_in : LatticeWords → ℕ
@@ -23,10 +22,6 @@ IsReady words seat = IsSeatOf words seat × ((core_of seat).mode ≡ Idle)
 -- a pool of hints below this count
 abbrev pub IsPoolOf : ℕ → OwnPool → Type 0
 IsPoolOf count pool = (own_log pool).count ≡ count
-
--- a robber of so many pools of hints below this count
-abbrev pub IsRobberOf : ℕ → ℕ → Robber → Type 0
-IsRobberOf workers count robber = (length (robber_logs robber) ≡ workers) × All (λ log. log.count ≡ count) (robber_logs robber)
 
 -- the seat has the position open, with a place for the value of each input
 pub record HasOpen (s : System) (p : PosId) (seat : CoreSeat) : Type 0 where

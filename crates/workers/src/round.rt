@@ -2,7 +2,8 @@
 //! word, all words.
 ghost use Rattle.std.specs.Prelude.{◌≡◌, ◌++◌, ◌∷◌, ◌<◌, ◌≤◌, [], MatchBool};
 ghost use Rattle.word_rule.specs.Belongs.{core_of, workers_in, KnowsAll};
-ghost use Rattle.workers.specs.Workers.{count_in, IsReady, IsPoolOf, IsRobberOf, HasTaken};
+ghost use Rattle.workers.specs.Workers.{count_in, IsReady, IsPoolOf, HasTaken};
+ghost use Rattle.steal_pool.specs.Pools.{IsRobberOf};
 
 use crate::turn::{Shift, attempt};
 use attr_ids::PosId;

@@ -2,7 +2,8 @@ ghost use Rattle.std.specs.Prelude.{◌≡◌, ◌<◌, ◌+◌, ◌↔◌};
 ghost use Rattle.attr_ids.specs.declared.status.WorkerEnd.TheVariants.{Done, Spent};
 ghost use Rattle.fix_core.specs.declared.state.CoreMode.TheVariants.{Idle};
 ghost use Rattle.word_rule.specs.Belongs.{core_of, workers_in, IsSameSeat, KnowsAll};
-ghost use Rattle.workers.specs.Workers.{count_in, IsReady, IsPoolOf, IsRobberOf};
+ghost use Rattle.workers.specs.Workers.{count_in, IsReady, IsPoolOf};
+ghost use Rattle.steal_pool.specs.Pools.{IsRobberOf};
 
 use crate::round::round;
 use crate::turn::Shift;

@@ -1,6 +1,7 @@
 use Rattle.std.proofs.Common.{◌≤◌, ◌-◌}
 use Rattle.word_rule.specs.Belongs.{workers_in}
-use Rattle.workers.specs.Workers.{count_in, IsPoolOf, IsRobberOf, HasTaken}
+use Rattle.workers.specs.Workers.{count_in, IsPoolOf, HasTaken}
+use Rattle.steal_pool.specs.Pools.{IsRobberOf}
 use Rattle.workers.proofs.worker.run_worker.Given as goal
 
 abbrev pub invariant-loop-taken : goal.invariant-loop-taken
