@@ -124,6 +124,14 @@ is_inner m o = is_exact_in (callee_of m o)
 abbrev pub is_outer : Module → Op → Bool
 is_outer m o = is_call o && not (is_inner m o)
 
+abbrev pub callee_in : Bool → Option FuncId → Option ℕ
+callee_in true (Some g) = Some g.0
+callee_in _ _ = None
+
+-- the body that an inner call runs; an outer call runs none of the module's
+abbrev pub inner_callee : Module → Op → Option ℕ
+inner_callee m o = callee_in (is_inner m o) (direct_callee m o)
+
 -- ---- which bodies the outside may enter
 
 abbrev pub is_visible : Linkage → Bool
