@@ -1,5 +1,5 @@
 -- Instructions by what they do, so that a law has a case for each kind and not one for each instruction.
-use Rattle.std.proofs.Common.{◌≡◌, ℕ, ◌==◌, Bool, true, false, if◌then◌else◌, List, ◌∷◌, drop, slice_get, Option, None, Some, refl, ap}
+use Rattle.std.proofs.Common.{◌≡◌, ℕ, ◌==◌, Bool, true, false, if◌then◌else◌, List, drop, slice_get, Option, None, Some, refl}
 use Rattle.attr_ids.specs.declared.ids.BlockId.{BlockId}
 use Rattle.ir_module.specs.declared.op.Op.{Op}
 use Rattle.ir_module.specs.declared.op.Op.TheVariants as op
@@ -14,13 +14,13 @@ use Rattle.ir_module.specs.Places.{Spot, start_of}
 use Rattle.ir_module.specs.Edges.{edge, edges, catches_all}
 use Rattle.ir_module.specs.Calls.{is_call, inner_callee}
 use Rattle.ir_meaning.specs.Frames.{Begun, Frame, Body, State}
-use Rattle.ir_meaning.specs.Machine.{Out, Undefined, Ended, pick, calls, returns, unwinds, moves, behind, takes, evaluates, does, Landing, Lands, Passes, lands_or, landing_by}
+use Rattle.ir_meaning.specs.Machine.{Out, Undefined, Ended, pick, calls, returns, unwinds, moves, behind, takes, does, Lands, Passes, lands_or, landing_by}
 
 -- ---- a call is a `call` or an `invoke`
 pub each_call : (Q : Op → Type 0) →
     ((func_ty : FuncType) (callee : Written) (args : List Written) (words : CallWords) (places : CallPlaces) → Q (op.Call func_ty callee args words places)) →
     ((func_ty : FuncType) (callee : Written) (args : List Written) (words : CallWords) (places : CallPlaces) (normal unwind : BlockId) →
-        Q (op.Invoke func_ty callee args words places normal unwind)) →
+    Q (op.Invoke func_ty callee args words places normal unwind)) →
     (o : Op) → is_call o ≡ true → Q o
 each_call Q call invoke (op.Call func_ty callee args words places) is = call func_ty callee args words places
 each_call Q call invoke (op.Invoke func_ty callee args words places normal unwind) is = invoke func_ty callee args words places normal unwind

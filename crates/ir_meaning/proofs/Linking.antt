@@ -120,7 +120,7 @@ returned_in m f s instr formed is at called =
     each_call (λ o. instr.op ≡ o → IsIn m f (returned_to m s o))
     (λ func_ty callee args words places o_is. behind_in m f s instr formed is place (ends (op.Call func_ty callee args words places) o_is).1)
     (λ func_ty callee args words places normal unwind o_is.
-        edge_leads_in m f s instr 0 (edge way.Normal normal) formed is at (ap (λ o. slice_get (edges o) 0) o_is)) instr.op called refl
+    edge_leads_in m f s instr 0 (edge way.Normal normal) formed is at (ap (λ o. slice_get (edges o) 0) o_is)) instr.op called refl
   where
     place : IsFormedAt m s instr
     place = formed_at m s instr formed at
@@ -193,7 +193,7 @@ left_linked m picks top (Outside call ∷ below) formed h some = h.2
 left_linked m picks top (Body call func s ∷ below) formed h some =
     left_at_linked m call func s below (landing m picks s) (λ rest. left_by m rest (Body call func s) below) h.2
     (λ block lands.
-        lands_in m func s (active top).body picks block formed (placed m (Body call func s) below h.2).1 (calls_at m top s h.0.0 h.1) lands)
+    lands_in m func s (active top).body picks block formed (placed m (Body call func s) below h.2).1 (calls_at m top s h.0.0 h.1) lands)
     (λ rest. left_linked m rest (Body call func s) below formed h.2 (not_lowest m call func s below h.2))
 
 -- ---- one step

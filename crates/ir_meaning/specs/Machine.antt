@@ -1,6 +1,5 @@
 -- The steps of the machine. It keeps no values yet, so what hangs on a value is left to a pick.
-use Rattle.std.specs.Prelude.{◌+◌, ◌==◌, ◌||◌, ℕ, Bool, true, false, if◌then◌else◌, List, [], ◌∷◌, drop, slice_get, Option, None, Some}
-use Rattle.attr_ids.specs.declared.ids.BlockId.{BlockId}
+use Rattle.std.specs.Prelude.{◌+◌, ◌==◌, ℕ, Bool, true, false, if◌then◌else◌, List, [], ◌∷◌, drop, slice_get, Option, None, Some}
 use Rattle.ir_module.specs.declared.op.Op.{Op}
 use Rattle.ir_module.specs.declared.op.Op.TheVariants as op
 use Rattle.ir_module.specs.declared.op.Instr.{Instr}

@@ -8,4 +8,4 @@ use Rattle.ir_meaning.proofs.samples.a_branch_goes_either_way.Goals as goal
 
 pub returns : goal.returns
 unfolding run step instr_at entry_of catches_all is_open is_taken is_promised
-returns c = record { first = refl; second = refl; undefined = refl }
+returns c = record { first = refl; second = refl; neither = refl; undefined = refl }

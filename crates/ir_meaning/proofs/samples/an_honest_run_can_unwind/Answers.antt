@@ -76,11 +76,19 @@ none_written (Dereferenceable bytes) = no_rung bytes
 silent : (p : Promise) → AllByRecursion (λ e. AllByRecursion (λ b. promises sample p b ≡ false) e.calls)
     (events_of (run sample opened (enters_body 0 ∷ goes_on ∷ goes_on ∷ throws ∷ [])))
 unfolding run step instr_at entry_of catches_all is_open is_taken is_promised
-silent p = ((refl, (refl, tt)),
-  ((refl, (refl, (refl, tt))),
-  ((ap (λ b. b || (b || false)) (none_written p), (refl, (refl, (refl, tt)))),
-  ((refl, (refl, (refl, tt))),
-  ((refl, (refl, tt)), tt)))))
+silent p = (
+  (refl, (refl, tt)),
+  (
+    (refl, (refl, (refl, tt))),
+    (
+      (ap (λ b. b || (b || false)) (none_written p), (refl, (refl, (refl, tt)))),
+      (
+        (refl, (refl, (refl, tt))),
+        ((refl, (refl, tt)), tt),
+      ),
+    ),
+  ),
+)
 
 pub returns : goal.returns
 returns c = λ p a promised.
