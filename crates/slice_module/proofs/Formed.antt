@@ -108,9 +108,10 @@ module _ (m : Module) where
         (refl, subst (λ (r : Run). at + 1 ≡ r.first_seg + r.seg_count) (sym is) (omega (arith, t.place.place, ret.0)))
   ]
 
-  names_one : (b : List ℕ) → Accepted b m → (f j : ℕ) (g : Func) (block : Block) (c : Call) → slice_get m.funcs f ≡ Some g → g.body ≡ Some block →
+  -- a callee is a function of the module
+  pub callee_within : (b : List ℕ) → Accepted b m → (f j : ℕ) (g : Func) (block : Block) (c : Call) → slice_get m.funcs f ≡ Some g → g.body ≡ Some block →
       slice_get block.calls j ≡ Some c → c.callee.0 < length m.funcs
-  names_one b is f j g block c at body call =
+  callee_within b is f j g block c at body call =
       let in_func = all_at (λ (f : Func). All (NamesCallee b (names_of b (entities_of m))) (calls_of f)) m.funcs f g at is.callees in
       let mine : All (NamesCallee b (names_of b (entities_of m))) block.calls = subst (λ v. All (NamesCallee b (names_of b (entities_of m))) (block_calls v)) body in_func in
       let named = all_at (NamesCallee b (names_of b (entities_of m))) block.calls j c call mine in
@@ -138,7 +139,7 @@ module _ (m : Module) where
   instr_in b is k f seg t = elim t.kind [
     | inl call ↦
         subst (IsInstrIn (resolved b m) f) (sym call.2)
-        (call_in b f call.0 (names_one b is t.place.f t.place.j t.place.g t.place.b call.0 t.place.is t.place.body call.1))
+        (call_in b f call.0 (callee_within b is t.place.f t.place.j t.place.g t.place.b call.0 t.place.is t.place.body call.1))
     | inr ret ↦ subst (IsInstrIn (resolved b m) f) (sym ret.1) (ret_in b f)
   ]
 
