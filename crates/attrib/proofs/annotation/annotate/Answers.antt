@@ -12,7 +12,7 @@ use Rattle.slice_module.proofs.Formed.{formed}
 use Rattle.laws_control.proofs.Unwinding.{holds}
 use Rattle.weave.specs.Woven.{Woven}
 use Rattle.attrib.specs.Deduced.{facts_of}
-use Rattle.attrib.proofs.Counting.{few_mentions}
+use Rattle.slice_module.proofs.Counting.{few_mentions}
 use Rattle.attrib.proofs.annotation.annotate.Goals as goal
 
 pub returns-in-Err-Outside-clause-slice : goal.returns-in-Err-Outside-clause-slice
