@@ -4,7 +4,7 @@ ghost use Rattle.ir_module.specs.declared.op.Instr.{Instr};
 ghost use Rattle.ir_module.specs.declared.op.Written.{Written};
 ghost use Rattle.ir_module.specs.declared.op.Op.TheVariants as op;
 ghost use Rattle.ir_module.specs.Places.{Spot, instr_at, IsIn};
-ghost use Rattle.positions.specs.Facts.{Fact, nounwind_of, SupportsItself, IsGreatest, IsInSome};
+ghost use Rattle.positions.specs.Facts.{Fact, nounwind_of, IsFact, Justified, SupportsItself, IsGreatest, IsInSome};
 
 /// The greatest set that supports itself is the union of all that do.
 pub fn the_greatest_is_the_union()
@@ -14,6 +14,11 @@ pub fn the_greatest_is_the_union()
 /// A module has one greatest set at most.
 pub fn the_greatest_is_one()
     ensures { (m : Module) (held other : Fact → Bool) → IsGreatest m held → IsGreatest m other → (x : Fact) → held x ≡ other x }
+{}
+
+/// The greatest set has each fact that it justifies.
+pub fn the_greatest_has_what_it_justifies()
+    ensures { (m : Module) (held : Fact → Bool) → IsGreatest m held → (x : Fact) → IsFact m x → Justified m held x → held x ≡ true }
 {}
 
 /// A body in which a `resume` stands has no `nounwind` in a set that supports itself.
