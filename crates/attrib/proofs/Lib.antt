@@ -5,4 +5,3 @@ pub mod Once
 pub mod Facts
 pub mod Same
 pub mod Edges
-pub mod Counting

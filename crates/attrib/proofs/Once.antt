@@ -34,8 +34,8 @@ module _ (m : Module) (held other : ℕ → Bool) (same : (f : ℕ) → held f �
 pub one_text : (b out other : List ℕ) → IsAnnotated b out → IsAnnotated b other → out ≡ other
 one_text b out other x y =
     let same : x.m ≡ y.m = one_module b x.m y.m x.accepted y.accepted in
-    let greatest : IsGreatest (resolved x.m) y.held = subst (λ m. IsGreatest (resolved m) y.held) (sym same) y.greatest in
-    let facts = one_set (resolved x.m) x.held y.held x.greatest greatest in
+    let greatest : IsGreatest (resolved b x.m) y.held = subst (λ m. IsGreatest (resolved b m) y.held) (sym same) y.greatest in
+    let facts = one_set (resolved b x.m) x.held y.held x.greatest greatest in
     let mine : ℕ → Bool = λ f. x.held (nounwind_of f) in
     let theirs : ℕ → Bool = λ f. y.held (nounwind_of f) in
     let words : insertions_of x.m mine ≡ insertions_of x.m theirs = words_same x.m mine theirs (λ f. facts (nounwind_of f)) 0 x.m.funcs in

@@ -19,6 +19,6 @@ pub record IsAnnotated (b out : List ℕ) : Type 0 where
   pub m : Module
   pub accepted : Accepted b m
   pub held : Fact → Bool
-  pub greatest : IsGreatest (resolved m) held
+  pub greatest : IsGreatest (resolved b m) held
   pub woven : Woven b (insertions_of m (λ f. held (nounwind_of f))) out
-  pub holds : IsSound (resolved m) held
+  pub holds : IsSound (resolved b m) held

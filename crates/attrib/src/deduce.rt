@@ -1,14 +1,14 @@
 //! The deduction: the greatest self-supporting set of facts, from all facts down, by workers that take away
 //! what their rules do not leave.
 
-ghost use Rattle.std.specs.Prelude.{◌≡◌, ◌<◌, ◌≤◌, ◌^◌, ℕ, IfOk, OnOk, All, true, false, length, map, sum, slice_index};
+ghost use Rattle.std.specs.Prelude.{◌≡◌, ◌<◌, ◌≤◌, ◌^◌, ℕ, List, IfOk, OnOk, All, true, false, length, map, sum, slice_index};
 ghost use Rattle.rule_terms.specs.System.{value_in, IsSystem};
 ghost use Rattle.rule_terms.specs.Greatest as rule;
 ghost use Rattle.lattice_words.specs.Words.{IsWithin};
 ghost use Rattle.std.specs.List.{flat_map};
 ghost use Rattle.dep_graph.specs.Graph.{IsGraphOf};
 ghost use Rattle.slice_text.specs.Places.{mentions};
-ghost use Rattle.slice_module.specs.Module.{calls_of, entities_of};
+ghost use Rattle.slice_module.specs.Module.{calls_of, entities_of, Accepted};
 ghost use Rattle.slice_module.specs.Tables.{resolved};
 ghost use Rattle.slice_facts.specs.Facts.{held_in};
 ghost use Rattle.positions.specs.Facts.{IsGreatest};
@@ -122,7 +122,7 @@ fn greatest<R: Threads + Sync, G: Gate + Sync>(
     Ok(close(system, ran.words, &ran.ends))
 }
 
-/// The words that hold the greatest self-supporting set of a module's facts.
+/// The words that hold the greatest self-supporting set of the facts of a module, whatever text it is read of.
 pub(crate) fn nounwind<R: Threads + Sync, G: Gate + Sync>(
     rt: &R,
     alloc: Global,
@@ -134,7 +134,7 @@ pub(crate) fn nounwind<R: Threads + Sync, G: Gate + Sync>(
     requires most { workers ≤ 16 }
     requires few { length (flat_map mentions (entities_of m.now)) ≤ 32000000 }
     requires small { length m.now.funcs < 2 ^ 32 }
-    ensures { IfOk result (λ words. IsGreatest (resolved m.now) (spec.facts_of (held_in words))) }
+    ensures { IfOk result (λ words. (text : List ℕ) → Accepted text m.now → IsGreatest (resolved text m.now) (spec.facts_of (held_in words))) }
 {
     let system = system(alloc, m)?;
     let words = greatest(rt, alloc, m, &system, workers, gate)?;

@@ -1,3 +1,4 @@
+pub mod Instructions
 pub mod Runs
 pub mod Linking
 pub mod Numbers

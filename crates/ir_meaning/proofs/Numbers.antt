@@ -3,18 +3,18 @@
 use Rattle.std.proofs.Common.{◌≡◌, ℕ, ◌≤◌, Bool, true, false, if◌then◌else◌, List, [], ◌∷◌, Option, None, Some, refl, sym, subst, arith}
 use Rattle.std.specs.List.{AllByRecursion}
 use Rattle.ir_module.specs.declared.op.Op.{Op}
-use Rattle.ir_module.specs.declared.op.Op.TheVariants as op
 use Rattle.ir_module.specs.declared.op.Instr.{Instr}
 use Rattle.ir_module.specs.declared.module.Module.{Module}
-use Rattle.ir_module.specs.Places.{Spot, instr_at}
-use Rattle.ir_module.specs.Calls.{callee_of, is_inner, is_open}
+use Rattle.ir_module.specs.Places.{Spot, instr_at, start_of}
+use Rattle.ir_module.specs.Calls.{inner_callee, is_open}
 use Rattle.ir_meaning.specs.declared.choice.Act.{Act}
 use Rattle.ir_meaning.specs.declared.choice.Act.TheVariants as act
 use Rattle.ir_meaning.specs.declared.choice.Choice.{Choice}
 use Rattle.ir_meaning.specs.Frames.{Made, Entered, At, Begun, active, Frame, Body, Outside, State}
-use Rattle.ir_meaning.specs.Machine.{Ended, step, step_of, acts, body_step, does, gone_on, left_by, enters, calls_outside}
+use Rattle.ir_meaning.specs.Machine.{Ended, step, step_of, acts, body_step, does, gone_on, Landing, Lands, Passes, landing, left_at, left_by, enters, calls_outside, calls, moves, behind}
 use Rattle.ir_meaning.specs.Runs.{Done, run, IsOpening}
 use Rattle.ir_meaning.specs.Links.{AreNumbered}
+use Rattle.ir_meaning.proofs.Instructions.{by_kind}
 use Rattle.ir_meaning.proofs.Runs.{Keeps, run_law, always}
 
 -- a bound may be raised
@@ -22,16 +22,23 @@ raised : (n n' : ℕ) (stack : List Frame) → n ≤ n' → AreNumbered n stack 
 raised n n' [] l h = tt
 raised n n' (frame ∷ below) l h = (omega (arith, h.0), h.1)
 
-gone_on_numbered : (n : ℕ) (below : List Frame) → AreNumbered n below → AreNumbered n (gone_on below)
-gone_on_numbered n [] h = tt
-gone_on_numbered n (Body call func spot ∷ below) h = h
-gone_on_numbered n (Outside call ∷ below) h = h
+gone_on_numbered : (m : Module) (n : ℕ) (below : List Frame) → AreNumbered n below → AreNumbered n (gone_on m below)
+gone_on_numbered m n [] h = tt
+gone_on_numbered m n (Body call func spot ∷ below) h = h
+gone_on_numbered m n (Outside call ∷ below) h = h
 
-left_numbered : (n : ℕ) (top : Frame) (below : List Frame) → AreNumbered n below → AreNumbered n (left_by top below)
-left_numbered n top [] h = tt
-left_numbered n top (Outside call ∷ below) h = h
-left_numbered n top (Body call func spot ∷ below) h =
-    left_numbered n (Body call func spot) below (raised call.number n below (omega (arith, h.0)) h.1)
+-- an unwinding takes frames away, and where it lands the frame keeps its number
+left_at_numbered : (m : Module) (n : ℕ) (call : Begun) (func : ℕ) (spot : Spot) (below : List Frame) (l : Landing) (through : List ℕ → List Frame) →
+    AreNumbered n (Body call func spot ∷ below) → ((picks : List ℕ) → AreNumbered n (through picks)) → AreNumbered n (left_at m call func below l through)
+left_at_numbered m n call func spot below (Lands block) through h rest = h
+left_at_numbered m n call func spot below (Passes picks) through h rest = rest picks
+
+left_numbered : (m : Module) (n : ℕ) (picks : List ℕ) (top : Frame) (below : List Frame) → AreNumbered n below → AreNumbered n (left_by m picks top below)
+left_numbered m n picks top [] h = tt
+left_numbered m n picks top (Outside call ∷ below) h = h
+left_numbered m n picks top (Body call func spot ∷ below) h =
+    left_at_numbered m n call func spot below (landing m picks spot) (λ rest. left_by m rest (Body call func spot) below) h
+    (λ rest. left_numbered m n rest (Body call func spot) below (raised call.number n below (omega (arith, h.0)) h.1))
 
 module _ (m : Module) where
   abbrev Inv : State → Type 0
@@ -54,40 +61,57 @@ module _ (m : Module) where
   calling_out : (t : State) (made : Made) → Inv t → Keeps Inv Free Was t (calls_outside t made)
   calling_out t made inv = λ _. ((omega arith, inv), inv)
 
-  acting : (t : State) (call : Begun) (below : List Frame) (a : Act) → t.stack ≡ Outside call ∷ below → Inv t → Keeps Inv Free Was t (acts m t call below a)
-  acting t call below (act.Enter func) e inv = by (is_open m func.0)
+  acting : (t : State) (picks : List ℕ) (call : Begun) (below : List Frame) (a : Act) → t.stack ≡ Outside call ∷ below → Inv t →
+      Keeps Inv Free Was t (acts m t picks call below a)
+  acting t picks call below (act.Enter func) e inv = by (is_open m func.0)
     where
       by : (b : Bool) → Keeps Inv Free Was t (if b then enters m t Entered func.0 else Ended)
       by true = entering t Entered func.0 inv
       by false = tt
-  acting t call [] act.Return e inv = tt
-  acting t call (under ∷ below) act.Return e inv = λ _. (gone_on_numbered t.next_call (under ∷ below) (under_top t (Outside call) (under ∷ below) e inv), inv)
-  acting t call [] act.Unwind e inv = tt
-  acting t call (under ∷ below) act.Unwind e inv = λ _. (left_numbered t.next_call (Outside call) (under ∷ below) (under_top t (Outside call) (under ∷ below) e inv), inv)
+  acting t picks call [] act.Return e inv = tt
+  acting t picks call (under ∷ below) act.Return e inv =
+      λ _. (gone_on_numbered m t.next_call (under ∷ below) (under_top t (Outside call) (under ∷ below) e inv), inv)
+  acting t picks call [] act.Unwind e inv = tt
+  acting t picks call (under ∷ below) act.Unwind e inv =
+      λ _. (left_numbered m t.next_call picks (Outside call) (under ∷ below) (under_top t (Outside call) (under ∷ below) e inv), inv)
 
-  doing : (t : State) (call : Begun) (func : ℕ) (s : Spot) (below : List Frame) (o : Op) → t.stack ≡ Body call func s ∷ below → Inv t → Keeps Inv Free Was t (does m t call func s below o)
-  doing t call func s below (op.Call callee words places) e inv = by (is_inner m callee)
-    where
-      by : (b : Bool) → Keeps Inv Free Was t (if b then enters m t (At s) (callee_of callee) else calls_outside t (At s))
-      by true = entering t (At s) (callee_of callee) inv
-      by false = calling_out t (At s) inv
-  doing t call func s below (op.Ret val) e inv = λ _. (gone_on_numbered t.next_call below (under_top t (Body call func s) below e inv), inv)
+  calling : (t : State) (s : Spot) (body : Option ℕ) → Inv t → Keeps Inv Free Was t (calls m t s body)
+  calling t s (Some f) inv = entering t (At s) f inv
+  calling t s None inv = calling_out t (At s) inv
 
-  standing : (t : State) (call : Begun) (func : ℕ) (s : Spot) (below : List Frame) (found : Option Instr) → t.stack ≡ Body call func s ∷ below → Inv t →
-      Keeps Inv Free Was t (body_step m t call func s below found)
-  standing t call func s below None e inv = tt
-  standing t call func s below (Some instr) e inv = doing t call func s below instr.op e inv
+  moving : (t : State) (call : Begun) (func : ℕ) (s s' : Spot) (below : List Frame) → t.stack ≡ Body call func s ∷ below → Inv t →
+      Keeps Inv Free Was t (moves t call func s' below)
+  moving t call func s s' below e inv = λ _. (subst (AreNumbered t.next_call) e inv, inv)
 
-  stepping : (t : State) (stack : List Frame) (a : Option Act) → t.stack ≡ stack → Inv t → Keeps Inv Free Was t (step_of m t stack a)
-  stepping t [] a e inv = tt
-  stepping t (Outside call ∷ below) None e inv = tt
-  stepping t (Outside call ∷ below) (Some a) e inv = acting t call below a e inv
-  stepping t (Body call func s ∷ below) None e inv = standing t call func s below (instr_at m s) e inv
-  stepping t (Body call func s ∷ below) (Some a) e inv = tt
+  doing : (t : State) (picks : List ℕ) (call : Begun) (func : ℕ) (s : Spot) (below : List Frame) (o : Op) → t.stack ≡ Body call func s ∷ below → Inv t →
+      Keeps Inv Free Was t (does m t picks call func s below o)
+  doing t picks call func s below o e inv =
+      let under = under_top t (Body call func s) below e inv in
+      by_kind m t picks call func s below (Keeps Inv Free Was t) o (record {
+        calling = λ is. calling t s (inner_callee m o) inv;
+        unwinding = λ val is _. (left_numbered m t.next_call picks (Body call func s) below under, inv);
+        returning = λ _. (gone_on_numbered m t.next_call below under, inv);
+        branching = λ i edge is. moving t call func s (start_of m edge.to.0) below e inv;
+        moving = moving t call func s (behind s) below e inv;
+        undefined = tt;
+        ended = tt;
+      })
+
+  standing : (t : State) (picks : List ℕ) (call : Begun) (func : ℕ) (s : Spot) (below : List Frame) (found : Option Instr) → t.stack ≡ Body call func s ∷ below →
+      Inv t → Keeps Inv Free Was t (body_step m t picks call func s below found)
+  standing t picks call func s below None e inv = tt
+  standing t picks call func s below (Some instr) e inv = doing t picks call func s below instr.op e inv
+
+  stepping : (t : State) (picks : List ℕ) (stack : List Frame) (a : Option Act) → t.stack ≡ stack → Inv t → Keeps Inv Free Was t (step_of m t picks stack a)
+  stepping t picks [] a e inv = tt
+  stepping t picks (Outside call ∷ below) None e inv = tt
+  stepping t picks (Outside call ∷ below) (Some a) e inv = acting t picks call below a e inv
+  stepping t picks (Body call func s ∷ below) None e inv = standing t picks call func s below (instr_at m s) e inv
+  stepping t picks (Body call func s ∷ below) (Some a) e inv = tt
 
   numbered_step : (t : State) (choice : Choice) → Inv t → Keeps Inv Free Was t (step m t choice)
   unfolding step
-  numbered_step t choice inv = stepping t t.stack choice.act refl inv
+  numbered_step t choice inv = stepping t choice.picks t.stack choice.act refl inv
 
   pub all_numbered : (opening : State) → IsOpening opening → (choices : List Choice) → AllByRecursion Was (run m opening choices)
   all_numbered opening is choices =

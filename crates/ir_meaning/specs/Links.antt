@@ -1,17 +1,15 @@
 -- How the frames of a stack are linked to each other.
-use Rattle.std.specs.Prelude.{◌≡◌, ◌<◌, ℕ, true, if◌then◌else◌, List, [], ◌∷◌, Option, None, Some}
+use Rattle.std.specs.Prelude.{◌≡◌, ◌<◌, ℕ, true, List, [], ◌∷◌, Option, None, Some}
 use Rattle.ir_module.specs.declared.op.Op.{Op}
-use Rattle.ir_module.specs.declared.op.Op.TheVariants as op
 use Rattle.ir_module.specs.declared.op.Instr.{Instr}
 use Rattle.ir_module.specs.declared.module.Module.{Module}
 use Rattle.ir_module.specs.Places.{instr_at, IsIn}
-use Rattle.ir_module.specs.Calls.{callee_of, is_inner, is_open}
+use Rattle.ir_module.specs.Calls.{is_call, inner_callee, is_open}
 use Rattle.ir_meaning.specs.Frames.{Made, Lowest, Entered, At, Active, active, Frame, Body, Outside}
 
--- the call instruction runs this body, or none where it is outer
+-- the instruction is a call that runs this body, or none of the module's where it is outer
 abbrev pub CallsBody : Module → Option ℕ → Op → Type 0
-CallsBody m body (op.Call callee words places) = body ≡ (if is_inner m callee then Some (callee_of callee) else None)
-CallsBody m body (op.Ret val) = ⊥
+CallsBody m body o = (is_call o ≡ true) × (body ≡ inner_callee m o)
 
 abbrev pub CallsBodyIn : Module → Option ℕ → Option Instr → Type 0
 CallsBodyIn m body None = ⊥

@@ -1,4 +1,4 @@
-use attr_ids::FuncId;
+use attr_ids::{FuncId, Numbers};
 
 /// What an outside frame does of its free choice.
 #[derive(Clone, Copy, Debug, PartialEq, Eq)]
@@ -11,8 +11,10 @@ pub enum Act {
     Unwind,
 }
 
-/// What is left free at one step: an act where an outside frame is on top, and none elsewhere.
-#[derive(Clone, Copy, Debug, PartialEq, Eq)]
+/// What is left free at one step: an act where an outside frame is on top, and none elsewhere, and the
+/// picks of its alternatives in the order in which the step comes to them. A missing pick is 0.
+#[derive(Debug, Drop)]
 pub struct Choice {
+    pub picks: Numbers,
     pub act: Option<Act>,
 }

@@ -1,3 +1,5 @@
 pub mod Places
+pub mod Edges
+pub mod Operands
 pub mod Calls
 pub mod Formed

@@ -27,6 +27,16 @@ pub record IsIn (m : Module) (f : ℕ) (s : Spot) : Type 0 where
   pub at_block : slice_get m.blocks seg.block.0 ≡ Some block
   pub in_func : block.func.0 ≡ f
 
+-- the segment is one of block number i
+pub record IsSegInBlock (m : Module) (i k : ℕ) : Type 0 where
+  pub seg : Seg
+  pub at_seg : slice_get m.segs k ≡ Some seg
+  pub in_block : seg.block.0 ≡ i
+
+-- the segment is one of the function's body
+abbrev pub IsSegIn : Module → ℕ → ℕ → Type 0
+IsSegIn m f k = IsIn m f (record { seg = k; at = 0 })
+
 abbrev pub first_block_in : Option Func → ℕ
 first_block_in None = 0
 first_block_in (Some f) = f.first_block
@@ -35,10 +45,18 @@ abbrev pub first_seg_in : Option Block → ℕ
 first_seg_in None = 0
 first_seg_in (Some b) = b.first_seg
 
--- where a body begins: the first instruction of the first segment of its first block
-unfoldable pub entry_of : Module → ℕ → Spot
-entry_of m f = record { seg = first_seg_in (slice_get m.blocks (first_block_in (slice_get m.funcs f))); at = 0 }
+-- the segment in which a block begins
+abbrev pub first_seg_of : Module → ℕ → ℕ
+first_seg_of m i = first_seg_in (slice_get m.blocks i)
 
--- where a body goes on behind a call: a call ends its segment, so it is where the next one begins
+-- where a block begins: the first instruction of its first segment
+abbrev pub start_of : Module → ℕ → Spot
+start_of m i = record { seg = first_seg_of m i; at = 0 }
+
+-- where a body begins: its first block does
+unfoldable pub entry_of : Module → ℕ → Spot
+entry_of m f = start_of m (first_block_in (slice_get m.funcs f))
+
+-- where a body goes on behind a `call`: a call ends its segment, so it is where the next one begins; behind an `invoke` a block begins
 abbrev pub behind_call : Spot → Spot
 behind_call s = record { seg = s.seg + 1; at = 0 }

@@ -1,15 +1,35 @@
-//! A module as resolved data: functions, blocks, segments and instructions in flat tables, each named
-//! by its number. The front end makes it; the layers above only read it. A segment is a run of
-//! instructions of one block that ends in a call or in the block's terminator. The layers above use the
-//! definitions of `specs`: what a well formed module is, a spot of it, a call, an open body, a promise.
+//! A module as resolved data: types, globals, functions, blocks, segments, instructions and values in flat
+//! tables, each thing named by its number. The front end makes it; the layers above only read it. A segment is
+//! a run of instructions of one block that ends in a call or in the block's terminator. The layers above use the
+//! definitions of `specs`: what a well formed module is, a spot of it, an edge, an operand, a call, an open body.
 #![tactic(auto)]
 
+mod callee;
 mod class;
+mod edge;
+mod few;
 mod module;
 mod op;
+mod operands;
+mod places;
 #[cfg(test)]
 mod tests;
+mod words;
 
+pub use callee::direct_callee;
 pub use class::{CallView, Class, call_of, class_of};
-pub use module::{Block, Blocks, Func, FuncPlaces, FuncWords, Funcs, Linkage, Module, Seg, Segs};
-pub use op::{CallPlaces, CallWords, Instr, Instrs, Op, Operand, Written};
+pub use edge::{Edge, Way};
+pub use few::has_few;
+pub use module::{
+    Block, Blocks, Def, Func, Funcs, GlobalVar, Globals, Linkage, Module, Param, Params, Seg, Segs,
+    ValueInfo, Values,
+};
+pub use op::{
+    Arm, Arms, Case, Cases, Clause, Clauses, FuncType, Instr, Instrs, Op, Operand, Operands, Shape,
+    Symbol, Written,
+};
+pub use operands::literal;
+pub use places::{block_of, first_seg, func_of, instr_at, segs_of_block, segs_of_func};
+pub use words::{
+    CallPlaces, CallWords, FuncPlaces, FuncWords, MemWord, ParamWords, ParamWordsList,
+};

@@ -70,6 +70,13 @@ impl TypeTable {
         }
     }
 
+    /// How many types the table has.
+    pub fn len(&self) -> usize
+        ensures { result ≡ length self.now }
+    {
+        self.types.len()
+    }
+
     /// A type of the table.
     pub fn get(&self, t: TypeId) -> &IrType
         requires { t.0 < length self.now }

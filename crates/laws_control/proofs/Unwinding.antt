@@ -1,31 +1,32 @@
 -- No call unwinds whose fact is held, in an honest run. A call that unwinds is able to: an outer one promised
 -- nothing, and the fact of a body that unwinds is not held, since the call in it that unwound was able to.
-use Rattle.std.proofs.Common.{◌≡◌, ℕ, Bool, true, false, if◌then◌else◌, List, [], ◌∷◌, Option, None, Some, refl, sym, ap, subst, ◌∙◌, map}
+use Rattle.std.proofs.Common.{◌≡◌, ℕ, Bool, true, false, if◌then◌else◌, List, [], ◌∷◌, Option, None, Some, refl, sym, subst, ◌∙◌, map, ⊎_elim}
 use Rattle.std.specs.List.{AllByRecursion}
 use Rattle.std.proofs.lemmas.List.Elements.{recursion_from_All, All-from_recursion}
 use Rattle.ir_module.specs.declared.op.Op.{Op}
 use Rattle.ir_module.specs.declared.op.Op.TheVariants as op
 use Rattle.ir_module.specs.declared.op.Written.{Written}
-use Rattle.ir_module.specs.declared.op.CallWords.{CallWords}
-use Rattle.ir_module.specs.declared.op.CallPlaces.{CallPlaces}
 use Rattle.ir_module.specs.declared.op.Instr.{Instr}
 use Rattle.ir_module.specs.declared.module.Module.{Module}
 use Rattle.ir_module.specs.Places.{Spot, instr_at, IsIn}
+use Rattle.ir_module.specs.Edges.{catches_all}
 use Rattle.ir_module.specs.Formed.{IsWellFormed}
-use Rattle.ir_module.specs.Calls.{Nounwind, callee_of, is_inner, is_open, is_promised}
+use Rattle.ir_module.specs.Calls.{Nounwind, is_call, inner_callee, is_open, is_promised}
 use Rattle.ir_meaning.specs.declared.choice.Act.{Act}
 use Rattle.ir_meaning.specs.declared.choice.Act.TheVariants as act
 use Rattle.ir_meaning.specs.declared.choice.Choice.{Choice}
 use Rattle.ir_meaning.specs.Frames.{Made, Entered, At, Begun, Active, active, Frame, Body, Outside, State, Event, event, What, Unwind}
-use Rattle.ir_meaning.specs.Machine.{Ended, step, step_of, acts, body_step, does, enters, calls_outside, unwinds_of, unwinds}
+use Rattle.ir_meaning.specs.Machine.{Ended, step, step_of, acts, body_step, does, enters, calls, Landing, Lands, Passes, landing_by, landing_in, landing, events_at, unwinds_of, unwinds}
 use Rattle.ir_meaning.specs.Runs.{Done, run, events_of, IsOpening}
-use Rattle.ir_meaning.specs.Meanings.{IsBy, HoldsOf, promised_to, promises, IsHonest}
+use Rattle.ir_meaning.specs.Meanings.{IsBy, HoldsOf, promised_in, promised_to, promises, IsHonest}
 use Rattle.ir_meaning.specs.Links.{CallsBody, CallsBodyIn, BeginsAs, RunsItsCallee, AreLinked, IsLinked}
+use Rattle.ir_meaning.proofs.Instructions.{each_call, by_kind, lets_through}
 use Rattle.ir_meaning.proofs.Runs.{Keeps, run_law, of_events, of_steps}
 use Rattle.ir_meaning.proofs.Linking.{all_linked, all_run}
 use Rattle.positions.specs.declared.pos.Pos.{Pos}
 use Rattle.positions.specs.declared.pos.Pos.TheVariants as pos
-use Rattle.positions.specs.Facts.{Fact, nounwind_of, SupportsItself, KeepsNounwind}
+use Rattle.positions.specs.Facts.{Fact, nounwind_of, SupportsItself, keeps_by, call_keeps, KeepsNounwind}
+use Rattle.positions.proofs.Rules.{resume_unwinds}
 use Rattle.laws_control.specs.Soundness.{HoldsAt, FactHolds, IsSound}
 
 clash : true ≡ false → ⊥
@@ -40,30 +41,40 @@ module _ (m : Module) (held : Fact → Bool) (is : SupportsItself m held) where
   abbrev IsAble : Active → Type 0
   IsAble a = AbleAs a.call.made a.body
 
-  -- ---- a body in which a call is able to unwind is able to
-  caller_able : (f : ℕ) (s : Spot) (made : Made) (body : Option ℕ) (o : Op) (instr : Instr) → instr_at m s ≡ Some instr → instr.op ≡ o → IsIn m f s →
-      CallsBody m body o → made ≡ At s → AbleAs made body → held (nounwind_of f) ≡ false
-  caller_able f s made body (op.Ret val) instr at o_is within calls at_s able = absurd calls
-  caller_able f s made body (op.Call callee words places) instr at o_is within calls at_s able = by (held (nounwind_of f)) refl
-    where
-      inner : (b : Bool) → is_inner m callee ≡ b → (if b then held (nounwind_of (callee_of callee)) else is_promised m Nounwind callee words) ≡ true →
-          body ≡ (if b then Some (callee_of callee) else None) → ⊥
-      inner true e kept of = clash (sym kept ∙ subst (AbleAs made) of able)
-      inner false e kept of =
-          let free : promised_to m Nounwind (At s) None ≡ false = subst (λ made. promised_to m Nounwind made None ≡ false) at_s (subst (AbleAs made) of able) in
-          let written : is_promised m Nounwind callee words ≡ false = sym (rw (at, o_is) refl) ∙ free in
-          clash (sym kept ∙ written)
+  -- ---- a body through which an unwinding goes is able to unwind
 
+  -- a call that is able to unwind does not have `nounwind`
+  able_call : (s : Spot) (made : Made) (body : Option ℕ) (instr : Instr) → instr_at m s ≡ Some instr → CallsBody m body instr.op → made ≡ At s → AbleAs made body →
+      call_keeps m held instr.op ≡ false
+  able_call s made body instr at calls at_s able = by (inner_callee m instr.op) (subst (AbleAs made) calls.1 able)
+    where
+      by : (found : Option ℕ) → AbleAs made found → keeps_by held (is_promised m Nounwind instr.op) found ≡ false
+      by (Some g) able = able
+      by None able =
+          subst (λ found. promised_in m Nounwind found ≡ false) at (subst (λ made. promised_to m Nounwind made None ≡ false) at_s able)
+
+  -- through an instruction that keeps `nounwind` an unwinding goes only where its call has it
+  kept_call : (picks rest : List ℕ) (o : Op) → is_call o ≡ true → landing_by m picks o ≡ Passes rest → KeepsNounwind m held o → call_keeps m held o ≡ true
+  kept_call picks rest =
+      each_call (λ o. landing_by m picks o ≡ Passes rest → KeepsNounwind m held o → call_keeps m held o ≡ true)
+      (λ func_ty callee args words places through kept. kept)
+      (λ func_ty callee args words places normal unwind through kept.
+      ⊎_elim (λ all. absurd (clash (sym all ∙ lets_through (catches_all m unwind.0) picks rest unwind.0 through))) (λ has. has) kept)
+
+  caller_able : (f : ℕ) (s : Spot) (made : Made) (body : Option ℕ) (picks rest : List ℕ) (instr : Instr) → instr_at m s ≡ Some instr → IsIn m f s →
+      CallsBody m body instr.op → made ≡ At s → AbleAs made body → landing_by m picks instr.op ≡ Passes rest → held (nounwind_of f) ≡ false
+  caller_able f s made body picks rest instr at within calls at_s able through = by (held (nounwind_of f)) refl
+    where
       by : (b : Bool) → held (nounwind_of f) ≡ b → b ≡ false
       by false e = refl
       by true e =
           let kept = (is (nounwind_of f) e).1 s instr within at in
-          absurd (inner (is_inner m callee) refl (subst (KeepsNounwind m held) o_is kept) calls)
+          absurd (clash (sym (kept_call picks rest instr.op calls.0 through kept) ∙ able_call s made body instr at calls at_s able))
 
-  caller_in : (f : ℕ) (s : Spot) (made : Made) (body : Option ℕ) (found : Option Instr) → instr_at m s ≡ found → IsIn m f s →
-      CallsBodyIn m body found → made ≡ At s → AbleAs made body → held (nounwind_of f) ≡ false
-  caller_in f s made body None at within calls at_s able = absurd calls
-  caller_in f s made body (Some instr) at within calls at_s able = caller_able f s made body instr.op instr at refl within calls at_s able
+  caller_in : (f : ℕ) (s : Spot) (made : Made) (body : Option ℕ) (picks rest : List ℕ) (found : Option Instr) → instr_at m s ≡ found → IsIn m f s →
+      CallsBodyIn m body found → made ≡ At s → AbleAs made body → landing_in m picks found ≡ Passes rest → held (nounwind_of f) ≡ false
+  caller_in f s made body picks rest None at within calls at_s able through = absurd calls
+  caller_in f s made body picks rest (Some instr) at within calls at_s able through = caller_able f s made body picks rest instr at within calls at_s able through
 
   stands_in : (call : Begun) (f : ℕ) (s : Spot) (below : List Frame) → AreLinked m (Body call f s) below → IsIn m f s
   stands_in call f s [] linked = linked.0.1
@@ -79,13 +90,22 @@ module _ (m : Module) (held : Fact → Bool) (is : SupportsItself m held) where
   top_able : (top : Frame) (below : List Frame) → IsAble (active top) → Able (event (top ∷ below) Unwind)
   top_able top below able = λ a by _. subst IsAble (first_of_list (active top) a (map active below) by.0 by.1) able
 
-  unwinds_able : (top : Frame) (below : List Frame) → AreLinked m top below → IsAble (active top) → AllByRecursion Able (unwinds_of top below)
-  unwinds_able top [] linked able = (top_able top [] able, tt)
-  unwinds_able top (Outside call ∷ below) linked able = (top_able top (Outside call ∷ below) able, tt)
-  unwinds_able top (Body call func s ∷ below) linked able =
+  events_at_able : (l : Landing) (through : List ℕ → List Event) → ((rest : List ℕ) → l ≡ Passes rest → AllByRecursion Able (through rest)) →
+      AllByRecursion Able (events_at l through)
+  events_at_able (Lands block) through each = tt
+  events_at_able (Passes rest) through each = each rest refl
+
+  unwinds_able : (picks : List ℕ) (top : Frame) (below : List Frame) → AreLinked m top below → IsAble (active top) → AllByRecursion Able (unwinds_of m picks top below)
+  unwinds_able picks top [] linked able = (top_able top [] able, tt)
+  unwinds_able picks top (Outside call ∷ below) linked able = (top_able top (Outside call ∷ below) able, tt)
+  unwinds_able picks top (Body call func s ∷ below) linked able =
       let calls : CallsBodyIn m (active top).body (instr_at m s) = subst (BeginsAs m (active top).body) linked.1 linked.0.0 in
-      let caller = caller_in func s (active top).call.made (active top).body (instr_at m s) refl (stands_in call func s below linked.2) calls linked.1 able in
-      (top_able top (Body call func s ∷ below) able, unwinds_able (Body call func s) below linked.2 caller)
+      let within = stands_in call func s below linked.2 in (
+        top_able top (Body call func s ∷ below) able,
+        events_at_able (landing m picks s) (λ rest. unwinds_of m rest (Body call func s) below)
+            (λ rest through. unwinds_able rest (Body call func s) below linked.2
+            (caller_in func s (active top).call.made (active top).body picks rest (instr_at m s) refl within calls linked.1 able through)),
+      )
 
   -- ---- one step
   abbrev Any : State → Type 0
@@ -104,16 +124,16 @@ module _ (m : Module) (held : Fact → Bool) (is : SupportsItself m held) where
   another_event : (stack : List Frame) (what : What) → (what ≡ Unwind → ⊥) → Able (event stack what)
   another_event stack what another = λ a by unwinds. absurd (another unwinds)
 
-  outside_unwinds : (t : State) (call : Begun) (under : Frame) (below : List Frame) → t.stack ≡ Outside call ∷ under ∷ below →
-      Keeps Any Given Shown t (unwinds t (Outside call) (under ∷ below))
-  outside_unwinds t call under below stack =
+  outside_unwinds : (t : State) (picks : List ℕ) (call : Begun) (under : Frame) (below : List Frame) → t.stack ≡ Outside call ∷ under ∷ below →
+      Keeps Any Given Shown t (unwinds m t picks (Outside call) (under ∷ below))
+  outside_unwinds t picks call under below stack =
       λ given. (
         tt,
-        unwinds_able (Outside call) (under ∷ below) (subst (IsLinked m) stack given.0)
+        unwinds_able picks (Outside call) (under ∷ below) (subst (IsLinked m) stack given.0)
             (free (promised_to m Nounwind call.made None) refl (starts under below given.1)),
       )
     where
-      starts : (under : Frame) (below : List Frame) → AllByRecursion Fair (unwinds_of (Outside call) (under ∷ below)) →
+      starts : (under : Frame) (below : List Frame) → AllByRecursion Fair (unwinds_of m picks (Outside call) (under ∷ below)) →
           Fair (event (Outside call ∷ under ∷ below) Unwind)
       starts (Body c f s) below fair = fair.0
       starts (Outside c) below fair = fair.0
@@ -122,40 +142,57 @@ module _ (m : Module) (held : Fact → Bool) (is : SupportsItself m held) where
       free false e fair = refl
       free true e fair = absurd (fair (active (Outside call)) (map active (under ∷ below), refl) refl e)
 
-  acting : (t : State) (call : Begun) (below : List Frame) (a : Act) → t.stack ≡ Outside call ∷ below → Keeps Any Given Shown t (acts m t call below a)
-  acting t call below (act.Enter func) stack = by (is_open m func.0)
+  acting : (t : State) (picks : List ℕ) (call : Begun) (below : List Frame) (a : Act) → t.stack ≡ Outside call ∷ below →
+      Keeps Any Given Shown t (acts m t picks call below a)
+  acting t picks call below (act.Enter func) stack = by (is_open m func.0)
     where
       by : (b : Bool) → Keeps Any Given Shown t (if b then enters m t Entered func.0 else Ended)
       by true = λ _. (tt, ((λ a of unwinds. cc), tt))
       by false = tt
-  acting t call [] act.Return stack = tt
-  acting t call (under ∷ below) act.Return stack = λ _. (tt, ((λ a of unwinds. cc), tt))
-  acting t call [] act.Unwind stack = tt
-  acting t call (under ∷ below) act.Unwind stack = outside_unwinds t call under below stack
+  acting t picks call [] act.Return stack = tt
+  acting t picks call (under ∷ below) act.Return stack = λ _. (tt, ((λ a of unwinds. cc), tt))
+  acting t picks call [] act.Unwind stack = tt
+  acting t picks call (under ∷ below) act.Unwind stack = outside_unwinds t picks call under below stack
 
-  doing : (t : State) (call : Begun) (func : ℕ) (s : Spot) (below : List Frame) (o : Op) → Keeps Any Given Shown t (does m t call func s below o)
-  doing t call func s below (op.Call callee words places) = by (is_inner m callee)
-    where
-      by : (b : Bool) → Keeps Any Given Shown t (if b then enters m t (At s) (callee_of callee) else calls_outside t (At s))
-      by true = λ _. (tt, ((λ a of unwinds. cc), tt))
-      by false = λ _. (tt, tt)
-  doing t call func s below (op.Ret val) = λ _. (tt, ((λ a of unwinds. cc), tt))
+  calling : (t : State) (s : Spot) (body : Option ℕ) → Keeps Any Given Shown t (calls m t s body)
+  calling t s (Some f) = λ _. (tt, ((λ a of unwinds. cc), tt))
+  calling t s None = λ _. (tt, tt)
 
-  standing : (t : State) (call : Begun) (func : ℕ) (s : Spot) (below : List Frame) (found : Option Instr) →
-      Keeps Any Given Shown t (body_step m t call func s below found)
-  standing t call func s below None = tt
-  standing t call func s below (Some instr) = doing t call func s below instr.op
+  -- a body that does a `resume` is able to unwind
+  resuming : (t : State) (picks : List ℕ) (call : Begun) (func : ℕ) (s : Spot) (below : List Frame) (instr : Instr) (val : Written) → instr_at m s ≡ Some instr →
+      instr.op ≡ op.Resume val → t.stack ≡ Body call func s ∷ below → Keeps Any Given Shown t (unwinds m t picks (Body call func s) below)
+  resuming t picks call func s below instr val at resumes stack =
+      λ given.
+      let linked : AreLinked m (Body call func s) below = subst (IsLinked m) stack given.0 in
+      (tt, unwinds_able picks (Body call func s) below linked (resume_unwinds m held is func s instr val (stands_in call func s below linked) at resumes))
 
-  stepping : (t : State) (stack : List Frame) (a : Option Act) → t.stack ≡ stack → Keeps Any Given Shown t (step_of m t stack a)
-  stepping t [] a e = tt
-  stepping t (Outside call ∷ below) None e = tt
-  stepping t (Outside call ∷ below) (Some a) e = acting t call below a e
-  stepping t (Body call func s ∷ below) None e = standing t call func s below (instr_at m s)
-  stepping t (Body call func s ∷ below) (Some a) e = tt
+  doing : (t : State) (picks : List ℕ) (call : Begun) (func : ℕ) (s : Spot) (below : List Frame) (instr : Instr) → instr_at m s ≡ Some instr →
+      t.stack ≡ Body call func s ∷ below → Keeps Any Given Shown t (does m t picks call func s below instr.op)
+  doing t picks call func s below instr at stack = by_kind m t picks call func s below (Keeps Any Given Shown t) instr.op (record {
+    calling = λ is_one. calling t s (inner_callee m instr.op);
+    unwinding = λ val resumes. resuming t picks call func s below instr val at resumes stack;
+    returning = λ _. (tt, ((λ a of unwinds. cc), tt));
+    branching = λ i e leads _. (tt, tt);
+    moving = λ _. (tt, tt);
+    undefined = tt;
+    ended = tt;
+  })
+
+  standing : (t : State) (picks : List ℕ) (call : Begun) (func : ℕ) (s : Spot) (below : List Frame) (found : Option Instr) → instr_at m s ≡ found →
+      t.stack ≡ Body call func s ∷ below → Keeps Any Given Shown t (body_step m t picks call func s below found)
+  standing t picks call func s below None at stack = tt
+  standing t picks call func s below (Some instr) at stack = doing t picks call func s below instr at stack
+
+  stepping : (t : State) (picks : List ℕ) (stack : List Frame) (a : Option Act) → t.stack ≡ stack → Keeps Any Given Shown t (step_of m t picks stack a)
+  stepping t picks [] a e = tt
+  stepping t picks (Outside call ∷ below) None e = tt
+  stepping t picks (Outside call ∷ below) (Some a) e = acting t picks call below a e
+  stepping t picks (Body call func s ∷ below) None e = standing t picks call func s below (instr_at m s) refl e
+  stepping t picks (Body call func s ∷ below) (Some a) e = tt
 
   able_step : (t : State) (choice : Choice) → Any t → Keeps Any Given Shown t (step m t choice)
   unfolding step
-  able_step t choice any = stepping t t.stack choice.act refl
+  able_step t choice any = stepping t choice.picks t.stack choice.act refl
 
   -- ---- whole runs
   both : (steps : List Done) → AllByRecursion (λ d. IsLinked m d.before.stack) steps → AllByRecursion (λ d. AllByRecursion Fair d.events) steps →
@@ -186,21 +223,19 @@ module _ (m : Module) (held : Fact → Bool) (is : SupportsItself m held) where
       let named : held (nounwind_of f.0) ≡ true = subst (λ b. held (record { pos = pos.Function f; bit = b }) ≡ true) fact.1 has in
       body_holds steps f.0 able named
 
-  call_holds : (steps : List Done) (s : Spot) (callee : Written) (words : CallWords) (places : CallPlaces) → AllByRecursion Able (events_of steps) →
-      AllByRecursion (λ e. AllByRecursion (RunsItsCallee m) e.calls) (events_of steps) → instr_at m s ≡ Some (record { op = op.Call callee words places }) →
-      is_inner m callee ≡ true → held (nounwind_of (callee_of callee)) ≡ true → HoldsAt Nounwind s steps
-  call_holds steps s callee words places able runs at inner has a made =
+  call_holds : (steps : List Done) (s : Spot) (instr : Instr) (f : ℕ) → AllByRecursion Able (events_of steps) →
+      AllByRecursion (λ e. AllByRecursion (RunsItsCallee m) e.calls) (events_of steps) → instr_at m s ≡ Some instr → inner_callee m instr.op ≡ Some f →
+      held (nounwind_of f) ≡ true → HoldsAt Nounwind s steps
+  call_holds steps s instr f able runs at inner has a made =
       let all = All-from_recursion (λ e. AllByRecursion (RunsItsCallee m) e.calls) (events_of steps) runs in
       λ k d l by unwinds.
       let mine : RunsItsCallee m a = (subst (AllByRecursion (RunsItsCallee m)) by.1 (all k d l)).0 in
-      let calls : CallsBodyIn m a.body (Some (record { op = op.Call callee words places })) = subst (CallsBodyIn m a.body) at (subst (BeginsAs m a.body) made mine) in
-      let of : a.body ≡ Some (callee_of callee) = calls ∙ ap (λ b. if b then Some (callee_of callee) else None) inner in
-      body_holds steps (callee_of callee) able has a of k d l by unwinds
+      let calls : CallsBodyIn m a.body (Some instr) = subst (CallsBodyIn m a.body) at (subst (BeginsAs m a.body) made mine) in
+      body_holds steps f able has a (calls.1 ∙ inner) k d l by unwinds
 
   pub holds : IsWellFormed m → IsSound m held
   holds formed opening opens choices honest =
       let able = all_able formed opening opens choices honest in record {
         facts = λ x has. fact_holds (run m opening choices) x.pos x.bit able has;
-        calls = λ s callee words places at inner has a made.
-            call_holds (run m opening choices) s callee words places able (all_run m formed opening opens choices) at inner has a made;
+        calls = λ s instr f at inner has a made. call_holds (run m opening choices) s instr f able (all_run m formed opening opens choices) at inner has a made;
       }

@@ -1,12 +1,9 @@
 -- What the facts of a module and the words at its calls say of a run.
 use Rattle.std.specs.Prelude.{◌≡◌, ℕ, Bool, true, List, Some}
-use Rattle.ir_module.specs.declared.op.Op.TheVariants as op
-use Rattle.ir_module.specs.declared.op.Written.{Written}
-use Rattle.ir_module.specs.declared.op.CallWords.{CallWords}
-use Rattle.ir_module.specs.declared.op.CallPlaces.{CallPlaces}
+use Rattle.ir_module.specs.declared.op.Instr.{Instr}
 use Rattle.ir_module.specs.declared.module.Module.{Module}
 use Rattle.ir_module.specs.Places.{Spot, instr_at}
-use Rattle.ir_module.specs.Calls.{Promise, Nounwind, callee_of, is_inner}
+use Rattle.ir_module.specs.Calls.{Promise, Nounwind, inner_callee}
 use Rattle.ir_meaning.specs.declared.choice.Choice.{Choice}
 use Rattle.ir_meaning.specs.Frames.{At, Active, State}
 use Rattle.ir_meaning.specs.Runs.{Done, IsOpening, run}
@@ -30,11 +27,11 @@ HoldsAtPos (pos.Function f) steps = HoldsOfBody Nounwind f.0 steps
 abbrev pub FactHolds : Fact → List Done → Type 0
 FactHolds x steps = HoldsAtPos x.pos steps
 
--- the facts of a set hold in a run, and `nounwind` holds at each call of a body that has it
+-- the facts of a set hold in a run, and `nounwind` holds at each inner call of a body that has it
 pub record AllHold (m : Module) (held : Fact → Bool) (steps : List Done) : Type 0 where
   pub facts : (x : Fact) → held x ≡ true → FactHolds x steps
-  pub calls : (s : Spot) (callee : Written) (words : CallWords) (places : CallPlaces) → instr_at m s ≡ Some (record { op = op.Call callee words places }) →
-      is_inner m callee ≡ true → held (nounwind_of (callee_of callee)) ≡ true → HoldsAt Nounwind s steps
+  pub calls : (s : Spot) (instr : Instr) (f : ℕ) → instr_at m s ≡ Some instr → inner_callee m instr.op ≡ Some f → held (nounwind_of f) ≡ true →
+      HoldsAt Nounwind s steps
 
 -- in every honest run, from every opening state and by every list of choices
 abbrev pub IsSound : Module → (Fact → Bool) → Type 0

@@ -1,14 +1,13 @@
 -- The facts of a module, what justifies each of them, and the greatest set that supports itself.
-use Rattle.std.specs.Prelude.{◌≡◌, ℕ, Bool, true, if◌then◌else◌, Some}
+use Rattle.std.specs.Prelude.{◌≡◌, ◌⊎◌, ℕ, Bool, true, Option, None, Some}
 use Rattle.lattice_words.specs.declared.function.TheConstants.{NOUNWIND}
 use Rattle.ir_module.specs.declared.op.Op.{Op}
 use Rattle.ir_module.specs.declared.op.Op.TheVariants as op
-use Rattle.ir_module.specs.declared.op.Written.{Written}
-use Rattle.ir_module.specs.declared.op.CallWords.{CallWords}
 use Rattle.ir_module.specs.declared.op.Instr.{Instr}
 use Rattle.ir_module.specs.declared.module.Module.{Module}
 use Rattle.ir_module.specs.Places.{Spot, instr_at, IsIn}
-use Rattle.ir_module.specs.Calls.{Nounwind, callee_of, is_inner, is_exact, is_promised}
+use Rattle.ir_module.specs.Edges.{catches_all}
+use Rattle.ir_module.specs.Calls.{Nounwind, inner_callee, is_exact, is_promised}
 use Rattle.positions.specs.declared.pos.Pos.{Pos}
 use Rattle.positions.specs.declared.pos.Pos.TheVariants as pos
 
@@ -28,15 +27,23 @@ IsBitOf m (pos.Function f) bit = (is_exact m f.0 ≡ true) × (bit ≡ NOUNWIND)
 abbrev pub IsFact : Module → Fact → Type 0
 IsFact m x = IsBitOf m x.pos x.bit
 
+abbrev pub keeps_by : (Fact → Bool) → Bool → Option ℕ → Bool
+keeps_by held promised (Some f) = held (nounwind_of f)
+keeps_by held promised None = promised
+
 -- the call has `nounwind` where the bodies of the set have it: an inner call by the fact of its callee, an
 -- outer one by its promise
-abbrev pub call_keeps : Module → (Fact → Bool) → Written → CallWords → Bool
-call_keeps m held callee words = if is_inner m callee then held (nounwind_of (callee_of callee)) else is_promised m Nounwind callee words
+abbrev pub call_keeps : Module → (Fact → Bool) → Op → Bool
+call_keeps m held o = keeps_by held (is_promised m Nounwind o) (inner_callee m o)
 
--- the instruction lets nothing unwind out of its body
+-- The instruction lets nothing unwind out of its body: a call that has `nounwind`, or an `invoke` whose landing pad
+-- catches all. A `resume` never does, and nothing else unwinds.
 abbrev pub KeepsNounwind : Module → (Fact → Bool) → Op → Type 0
-KeepsNounwind m held (op.Call callee words places) = call_keeps m held callee words ≡ true
-KeepsNounwind m held (op.Ret val) = Unit {0}
+KeepsNounwind m held (op.Call func_ty callee args words places) = call_keeps m held (op.Call func_ty callee args words places) ≡ true
+KeepsNounwind m held (op.Invoke func_ty callee args words places normal unwind) =
+    (catches_all m unwind.0 ≡ true) ⊎ (call_keeps m held (op.Invoke func_ty callee args words places normal unwind) ≡ true)
+KeepsNounwind m held (op.Resume val) = ⊥
+KeepsNounwind m held _ = Unit {0}
 
 -- each instruction of the body keeps it
 abbrev pub IsRuleOf : Module → (Fact → Bool) → Pos → Type 0

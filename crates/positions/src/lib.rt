@@ -7,5 +7,8 @@
 mod laws;
 mod pos;
 
-pub use laws::{the_greatest_is_one, the_greatest_is_the_union};
+pub use laws::{
+    a_resume_unwinds, the_greatest_has_what_it_justifies, the_greatest_is_one,
+    the_greatest_is_the_union,
+};
 pub use pos::Pos;

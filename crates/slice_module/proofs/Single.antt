@@ -77,7 +77,8 @@ rise_length : (n low : ℕ) (xs : List ℕ) → low ≤ n → RiseWithin low n x
 rise_length n low [] l r = omega arith
 rise_length n low (x ∷ xs) l r = let more = rise_length n x xs r.1 r.2 in omega (arith, r.0)
 
-mentions_length : (es : List Entity) → length es ≤ length (flat_map entity_mentions es)
+-- each function has a header
+pub mentions_length : (es : List Entity) → length es ≤ length (flat_map entity_mentions es)
 mentions_length [] = omega arith
 mentions_length (e ∷ es) = omega (arith, mentions_length es, length-append (entity_mentions e) (flat_map entity_mentions es))
 

@@ -2,13 +2,12 @@
 use Rattle.std.proofs.Common.{◌≡◌, ℕ, zero, suc, ◌+◌, ◌-◌, ◌<◌, ◌≤◌, ◌⊎◌, inl, inr, List, [], ◌∷◌, ◌++◌, length, map, slice_get, Option, None, Some, refl, sym, ap, subst, ◌∙◌, arith}
 use Rattle.std.specs.Option.{option_map}
 use Rattle.std.proofs.lemmas.Bool.{cases_lt}
-use Rattle.ir_module.specs.declared.op.Op.TheVariants as op
 use Rattle.ir_module.specs.declared.module.Seg.{Seg}
 use Rattle.ir_module.specs.declared.module.Block.{Block as Run}
 use Rattle.slice_module.specs.declared.module.Call.{Call}
 use Rattle.slice_module.specs.declared.module.Block.{Block}
 use Rattle.slice_module.specs.declared.module.Func.{Func}
-use Rattle.slice_module.specs.Tables.{op_of, segment, block_count_of, seg_count_of, entry_at, runs_of, block_segs, segs_of, entries_from, runs_from, segs_from}
+use Rattle.slice_module.specs.Tables.{call_instr, ret_instr, segment, block_count_of, seg_count_of, entry_at, run_of, runs_of, block_segs, segs_of, entries_from, runs_from, segs_from}
 
 -- ---- places of a list that was put together of two
 pub get_left : {A : Type 0} (xs ys : List A) (j : ℕ) → j < length xs → slice_get (xs ++ ys) j ≡ slice_get xs j
@@ -48,20 +47,17 @@ pub segs_long : (i : ℕ) (body : Option Block) → length (segs_of i body) ≡ 
 segs_long i None = refl
 segs_long i (Some b) = long b.calls
   where
-    long : (cs : List Call) → length (map (λ c. segment i (op_of c)) cs ++ segment i (op.Ret None) ∷ []) ≡ length cs + 1
+    long : (cs : List Call) → length (map (λ c. segment i (call_instr c)) cs ++ segment i ret_instr ∷ []) ≡ length cs + 1
     long [] = refl
     long (c ∷ cs) = ap suc (long cs) ∙ omega arith
 
 -- ---- the tables at these places
-pub entry_of_func : (i : ℕ) (fs : List Func) (f : ℕ) → slice_get (entries_from i fs) f ≡ option_map (entry_at (block_at i fs f)) (slice_get fs f)
+pub entry_of_func : (b : List ℕ) (i : ℕ) (fs : List Func) (f : ℕ) → slice_get (entries_from b i fs) f ≡ option_map (entry_at b (block_at i fs f)) (slice_get fs f)
 unfolding block_at
-entry_of_func i [] zero = refl
-entry_of_func i [] (suc f) = refl
-entry_of_func i (g ∷ fs) zero = refl
-entry_of_func i (g ∷ fs) (suc f) = entry_of_func (i + block_count_of g.body) fs f
-
-abbrev pub run_of : ℕ → ℕ → Block → Run
-run_of f k b = record { func = record { 0 = f }; first_seg = k; seg_count = length b.calls + 1 }
+entry_of_func b i [] zero = refl
+entry_of_func b i [] (suc f) = refl
+entry_of_func b i (g ∷ fs) zero = refl
+entry_of_func b i (g ∷ fs) (suc f) = entry_of_func b (i + block_count_of g.body) fs f
 
 some_is : {A : Type 0} {x y : A} → Some x ≡ Some y → x ≡ y
 some_is e = cc
@@ -173,15 +169,51 @@ located_run n i k (h ∷ fs) at run e = elim (cases_lt at (block_count_of h.body
       run_further i h fs at later place (located_run (n + 1) (i + block_count_of h.body) (k + seg_count_of h.body) fs later run (sym moved ∙ e))
 ]
 
+-- ---- a block is followed by that of a later function, and its segments by those of this one
+abbrev FirstRun : ℕ → ℕ → Run → Type 0
+FirstRun n k next = (n ≤ next.func.0) × (next.first_seg ≡ k)
+
+first_run : (n k : ℕ) (fs : List Func) (next : Run) → slice_get (runs_from n k fs) 0 ≡ Some next → FirstRun n k next
+first_run n k [] next e = absurd (cc)
+first_run n k (h ∷ fs) next e = by h.body e (first_run (n + 1) (k + seg_count_of h.body) fs next)
+  where
+    by : (found : Option Block) → slice_get (runs_of n k found ++ runs_from (n + 1) (k + seg_count_of found) fs) 0 ≡ Some next →
+        (slice_get (runs_from (n + 1) (k + seg_count_of found) fs) 0 ≡ Some next → FirstRun (n + 1) (k + seg_count_of found) next) → FirstRun n k next
+    by None e rest = let later = rest e in (omega (arith, later.0), omega (arith, later.1))
+    by (Some b) e rest = let same : run_of n k b ≡ next = some_is e in (omega (arith, ap (λ (r : Run). r.func.0) same), ap (λ (r : Run). r.first_seg) (sym same))
+
+abbrev Follows : Run → Run → Type 0
+Follows run next = (run.func.0 ≤ next.func.0) × (next.first_seg ≡ run.first_seg + run.seg_count)
+
+pub runs_follow : (n k : ℕ) (fs : List Func) (at : ℕ) (run next : Run) → slice_get (runs_from n k fs) at ≡ Some run → slice_get (runs_from n k fs) (at + 1) ≡ Some next → Follows run next
+runs_follow n k [] at run next e more = absurd (cc)
+runs_follow n k (h ∷ fs) at run next e more = by h.body at e more (λ at. runs_follow (n + 1) (k + seg_count_of h.body) fs at run next)
+  where
+    by : (found : Option Block) (at : ℕ) → slice_get (runs_of n k found ++ runs_from (n + 1) (k + seg_count_of found) fs) at ≡ Some run →
+        slice_get (runs_of n k found ++ runs_from (n + 1) (k + seg_count_of found) fs) (at + 1) ≡ Some next →
+        ((at : ℕ) → slice_get (runs_from (n + 1) (k + seg_count_of found) fs) at ≡ Some run →
+        slice_get (runs_from (n + 1) (k + seg_count_of found) fs) (at + 1) ≡ Some next → Follows run next) → Follows run next
+    by None at e more rest = rest at e more
+    by (Some b) zero e more rest =
+        let same : run_of n k b ≡ run = some_is e in
+        let first = first_run (n + 1) (k + (length b.calls + 1)) fs next more in
+        let number = ap (λ (r : Run). r.func.0) same in
+        let from = ap (λ (r : Run). r.first_seg) same in
+        let count = ap (λ (r : Run). r.seg_count) same in
+        (omega (arith, first.0, number), omega (arith, first.1, from, count))
+    by (Some b) (suc at) e more rest =
+        let place : suc (at + 1) ≡ suc at + 1 = omega arith in
+        rest at e (ap (slice_get (run_of n k b ∷ runs_from (n + 1) (k + (length b.calls + 1)) fs)) place ∙ more)
+
 -- ---- what a segment of a body is: one of a call, or the last one
 abbrev pub IsCallAt : ℕ → List Call → List Seg → ℕ → Type 0
-IsCallAt i cs segs j = (c : Call) × (slice_get cs j ≡ Some c) × (slice_get segs j ≡ Some (segment i (op_of c)))
+IsCallAt i cs segs j = (c : Call) × (slice_get cs j ≡ Some c) × (slice_get segs j ≡ Some (segment i (call_instr c)))
 
 abbrev pub IsRetAt : ℕ → List Call → List Seg → ℕ → Type 0
-IsRetAt i cs segs j = (j ≡ length cs) × (slice_get segs j ≡ Some (segment i (op.Ret None)))
+IsRetAt i cs segs j = (j ≡ length cs) × (slice_get segs j ≡ Some (segment i ret_instr))
 
 abbrev segs_for : ℕ → List Call → List Seg
-segs_for i cs = map (λ c. segment i (op_of c)) cs ++ segment i (op.Ret None) ∷ []
+segs_for i cs = map (λ c. segment i (call_instr c)) cs ++ segment i ret_instr ∷ []
 
 shapes : (i : ℕ) (cs : List Call) (j : ℕ) → j < length cs + 1 → IsCallAt i cs (segs_for i cs) j ⊎ IsRetAt i cs (segs_for i cs) j
 shapes i [] zero l = inr (refl, refl)
@@ -195,10 +227,10 @@ shapes i (c ∷ cs) (suc j) l = elim (shapes i cs j (omega arith)) [
 pub shape : (i : ℕ) (b : Block) (j : ℕ) → j < length b.calls + 1 → IsCallAt i b.calls (block_segs i b) j ⊎ IsRetAt i b.calls (block_segs i b) j
 shape i b j l = shapes i b.calls j l
 
-pub call_shape : (i : ℕ) (b : Block) (j : ℕ) (c : Call) → slice_get b.calls j ≡ Some c → slice_get (block_segs i b) j ≡ Some (segment i (op_of c))
+pub call_shape : (i : ℕ) (b : Block) (j : ℕ) (c : Call) → slice_get b.calls j ≡ Some c → slice_get (block_segs i b) j ≡ Some (segment i (call_instr c))
 call_shape i b j c e = by b.calls j e
   where
-    by : (cs : List Call) (j : ℕ) → slice_get cs j ≡ Some c → slice_get (segs_for i cs) j ≡ Some (segment i (op_of c))
+    by : (cs : List Call) (j : ℕ) → slice_get cs j ≡ Some c → slice_get (segs_for i cs) j ≡ Some (segment i (call_instr c))
     by [] j e = absurd (cc)
-    by (d ∷ cs) zero e = ap (λ x. Some (segment i (op_of x))) (some_is e)
+    by (d ∷ cs) zero e = ap (λ x. Some (segment i (call_instr x))) (some_is e)
     by (d ∷ cs) (suc j) e = by cs j e

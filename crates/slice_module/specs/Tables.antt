@@ -1,27 +1,87 @@
--- The resolved module that the functions of a text of the slice are: tables of functions, blocks and segments.
-use Rattle.std.specs.Prelude.{◌+◌, ℕ, if◌then◌else◌, List, [], ◌∷◌, ◌++◌, length, map, Option, None, Some}
-use Rattle.ir_module.specs.declared.op.Op.{Op}
+-- The resolved module that the functions of a text of the slice are. Where the slice keeps no offset, the nearest one
+-- that it keeps stands in: of a type, a call and a function that of its name; of a `ret void` none is kept.
+use Rattle.std.specs.Prelude.{◌+◌, ℕ, Bool, false, if◌then◌else◌, List, [], ◌∷◌, ◌++◌, length, map, drop, codes, Option, None, Some}
+use Rattle.attr_ids.specs.declared.ids.TypeId.{TypeId}
+use Rattle.ir_types.specs.declared.ir_type.IrType.TheVariants.{Void, Ptr}
+use Rattle.ir_module.specs.declared.words.FuncWords.{FuncWords}
+use Rattle.ir_module.specs.declared.words.ParamWords.{ParamWords}
+use Rattle.ir_module.specs.declared.words.CallWords.{CallWords}
+use Rattle.ir_module.specs.declared.words.CallPlaces.{CallPlaces}
+use Rattle.ir_module.specs.declared.op.FuncType.{FuncType}
+use Rattle.ir_module.specs.declared.op.Written.{Written}
 use Rattle.ir_module.specs.declared.op.Op.TheVariants as op
 use Rattle.ir_module.specs.declared.op.Operand.TheVariants as operand
+use Rattle.ir_module.specs.declared.op.Instr.{Instr}
 use Rattle.ir_module.specs.declared.module.Linkage.{Linkage}
 use Rattle.ir_module.specs.declared.module.Linkage.TheVariants as linkage
 use Rattle.ir_module.specs.declared.module.Seg.{Seg}
 use Rattle.ir_module.specs.declared.module.Block.{Block as Run}
 use Rattle.ir_module.specs.declared.module.Func.{Func as Entry}
 use Rattle.ir_module.specs.declared.module.Module.{Module as Resolved}
+use Rattle.slice_text.specs.declared.entity.Mention.{Mention}
 use Rattle.slice_module.specs.declared.module.Call.{Call}
 use Rattle.slice_module.specs.declared.module.Block.{Block}
 use Rattle.slice_module.specs.declared.module.Func.{Func}
 use Rattle.slice_module.specs.declared.module.Module.{Module}
+use Rattle.slice_module.specs.Names.{name_of}
 
--- a direct call, with the words that are written at it and the offset behind its closing parenthesis
-abbrev pub op_of : Call → Op
-op_of c = op.Call (record { val = operand.Func c.callee; at = c.mention.name.from }) (record { func = record { nounwind = c.mention.nounwind } })
-    (record { after = c.mention.after })
+-- the two types of the slice, by their numbers
+abbrev pub void : TypeId
+void = record { 0 = 0 }
+
+abbrev pub pointer : TypeId
+pointer = record { 0 = 1 }
+
+-- every function of the slice is a `void ()`
+abbrev pub func_type : FuncType
+func_type = record { ret = void; params = []; variadic = false }
+
+-- `nounwind` or not, and no other word
+abbrev pub words_with : Bool → FuncWords
+words_with nounwind = record { nounwind = nounwind; noreturn = false; nofree = false; norecurse = false; nocallback = false; memory = None }
+
+abbrev pub no_words : ParamWords
+no_words = record {
+  nonnull = false;
+  nocapture = false;
+  captures = false;
+  readnone = false;
+  readonly = false;
+  writeonly = false;
+  returned = false;
+  sret = false;
+  writable = false;
+  align = 0;
+  dereferenceable = 0;
+  bad = false;
+}
+
+-- the words that are written at a call, and the offsets of words that are added to it
+abbrev pub call_words : Mention → CallWords
+call_words m = record { func = words_with m.nounwind; ret = no_words; args = [] }
+
+abbrev pub call_places : Mention → CallPlaces
+call_places m = record { ret = m.name.from; after = m.after; args = [] }
+
+abbrev pub callee_at : Call → Written
+callee_at c = record { val = operand.Func c.callee; ty = pointer; at = c.mention.name.from }
+
+-- a direct call without arguments
+abbrev pub call_instr : Call → Instr
+call_instr c = record {
+  result = None;
+  named = false;
+  ty = void;
+  op = op.Call func_type (callee_at c) [] (call_words c.mention) (call_places c.mention);
+  span = record { from = c.mention.name.from; to = c.mention.after };
+}
+
+abbrev pub ret_instr : Instr
+ret_instr = record { result = None; named = false; ty = void; op = op.Ret None; span = record { from = 0; to = 0 } }
 
 -- a segment of one instruction, of this block
-abbrev pub segment : ℕ → Op → Seg
-segment i o = record { block = record { 0 = i }; instrs = record { op = o } ∷ [] }
+abbrev pub segment : ℕ → Instr → Seg
+segment i instr = record { block = record { 0 = i }; instrs = instr ∷ [] }
 
 -- a body is one block
 abbrev pub block_count_of : Option Block → ℕ
@@ -37,32 +97,47 @@ abbrev pub linkage_of : Option Block → Linkage
 linkage_of None = linkage.Plain
 linkage_of (Some b) = if b.internal then linkage.Internal else linkage.Plain
 
--- a function whose first block has this number
-abbrev pub entry_at : ℕ → Func → Entry
-entry_at i f = record {
+-- the name that is written in the text b, without its `@`
+abbrev pub bare_name : List ℕ → Mention → List ℕ
+bare_name b m = drop 1 (name_of b m)
+
+-- a function of the text b whose first block has this number
+abbrev pub entry_at : List ℕ → ℕ → Func → Entry
+entry_at b i f = record {
+  name = bare_name b f.header;
   linkage = linkage_of f.body;
-  words = record { nounwind = f.header.nounwind };
-  places = record { after = f.header.after };
+  ret = void;
+  ret_words = no_words;
+  params = [];
+  variadic = false;
+  words = words_with f.header.nounwind;
+  places = record { ret = f.header.name.from; after = f.header.after };
+  personality = false;
+  extra = [];
+  at = f.header.name.from;
   first_block = i;
   block_count = block_count_of f.body;
 }
 
--- the block of function number f, whose first segment has this number
+-- the block of function number f, whose first segment has this number; it has no label, so its name is the first number
+abbrev pub run_of : ℕ → ℕ → Block → Run
+run_of f k b = record { func = record { 0 = f }; name = codes "0"; first_seg = k; seg_count = length b.calls + 1 }
+
 abbrev pub runs_of : ℕ → ℕ → Option Block → List Run
 runs_of f k None = []
-runs_of f k (Some b) = record { func = record { 0 = f }; first_seg = k; seg_count = length b.calls + 1 } ∷ []
+runs_of f k (Some b) = run_of f k b ∷ []
 
 abbrev pub block_segs : ℕ → Block → List Seg
-block_segs i b = map (λ c. segment i (op_of c)) b.calls ++ segment i (op.Ret None) ∷ []
+block_segs i b = map (λ c. segment i (call_instr c)) b.calls ++ segment i ret_instr ∷ []
 
 abbrev pub segs_of : ℕ → Option Block → List Seg
 segs_of i None = []
 segs_of i (Some b) = block_segs i b
 
 -- the tables of these functions, where so many functions, blocks and segments stand before them
-abbrev pub entries_from : ℕ → List Func → List Entry
-entries_from i [] = []
-entries_from i (f ∷ fs) = entry_at i f ∷ entries_from (i + block_count_of f.body) fs
+abbrev pub entries_from : List ℕ → ℕ → List Func → List Entry
+entries_from b i [] = []
+entries_from b i (f ∷ fs) = entry_at b i f ∷ entries_from b (i + block_count_of f.body) fs
 
 abbrev pub runs_from : ℕ → ℕ → List Func → List Run
 runs_from n k [] = []
@@ -72,5 +147,20 @@ abbrev pub segs_from : ℕ → List Func → List Seg
 segs_from i [] = []
 segs_from i (f ∷ fs) = segs_of i f.body ++ segs_from (i + block_count_of f.body) fs
 
-unfoldable pub resolved : Module → Resolved
-resolved m = record { funcs = entries_from 0 m.funcs; blocks = runs_from 0 0 m.funcs; segs = segs_from 0 m.funcs }
+-- where `void` is written first
+abbrev pub first_at : List Func → ℕ
+first_at [] = 0
+first_at (f ∷ fs) = f.header.name.from
+
+-- the resolved module of the text b, whose functions are those of m
+unfoldable pub resolved : List ℕ → Module → Resolved
+resolved b m = record {
+  types = Void ∷ Ptr ∷ [];
+  globals = [];
+  funcs = entries_from b 0 m.funcs;
+  blocks = runs_from 0 0 m.funcs;
+  segs = segs_from 0 m.funcs;
+  values = [];
+  parts = [];
+  type_at = first_at m.funcs ∷ 0 ∷ [];
+}

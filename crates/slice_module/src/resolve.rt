@@ -109,7 +109,8 @@ pub fn one_module()
     ensures { (b : List ℕ) (m k : Module) → Accepted b m → Accepted b k → m ≡ k }
 {}
 
-/// The resolved module of a text is well formed: its numbers name what they should.
+/// The resolved module of a text is well formed: its numbers name what they should, and they fit 31 bits, since each
+/// thing takes a byte of the text.
 pub fn a_resolved_module_is_well_formed()
-    ensures { (b : List ℕ) (m : Module) → Accepted b m → IsWellFormed (resolved m) }
+    ensures { (b : List ℕ) (m : Module) → length b < 2 ^ 31 → Accepted b m → IsWellFormed (resolved b m) }
 {}

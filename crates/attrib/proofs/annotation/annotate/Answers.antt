@@ -12,7 +12,7 @@ use Rattle.slice_module.proofs.Formed.{formed}
 use Rattle.laws_control.proofs.Unwinding.{holds}
 use Rattle.weave.specs.Woven.{Woven}
 use Rattle.attrib.specs.Deduced.{facts_of}
-use Rattle.attrib.proofs.Counting.{few_mentions}
+use Rattle.slice_module.proofs.Counting.{few_mentions}
 use Rattle.attrib.proofs.annotation.annotate.Goals as goal
 
 pub returns-in-Err-Outside-clause-slice : goal.returns-in-Err-Outside-clause-slice
@@ -50,12 +50,13 @@ pub returns-clause-annotated : goal.returns-clause-annotated
 returns-clause-annotated g c =
     let m = c.in-Ok.module in
     let held = facts_of (held_in c.in_ok-words.words) in
+    let greatest = c.in_ok-words.ensures c.args.text.now c.in-Ok.ensures.accepted in
     record {
       small = omega arith;
       m = m;
       accepted = c.in-Ok.ensures.accepted;
       held = held;
-      greatest = c.in_ok-words.ensures;
+      greatest = greatest;
       woven = subst (λ (ins : List Insertion). Woven c.args.text.now ins c.in_ok-bytes.bytes) c.in_ok-insertions.ensures c.in_ok-bytes.ensures;
-      holds = holds (resolved m) held c.in_ok-words.ensures.is_one (formed m c.args.text.now c.in-Ok.ensures.accepted);
+      holds = holds (resolved c.args.text.now m) held greatest.is_one (formed m c.args.text.now (omega arith) c.in-Ok.ensures.accepted);
     }

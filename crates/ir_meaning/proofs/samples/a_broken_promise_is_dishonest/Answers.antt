@@ -1,7 +1,8 @@
 use Rattle.std.proofs.Common.{None, refl, [], ◌∷◌}
 use Rattle.std.proofs.lemmas.List.Elements.{recursion_from_All}
 use Rattle.ir_module.specs.Places.{instr_at, entry_of}
-use Rattle.ir_module.specs.Calls.{is_exact, is_open, is_promised, Nounwind}
+use Rattle.ir_module.specs.Edges.{catches_all}
+use Rattle.ir_module.specs.Calls.{is_open, is_taken, is_promised, Nounwind}
 use Rattle.ir_meaning.specs.Frames.{At, Active}
 use Rattle.ir_meaning.specs.Machine.{step}
 use Rattle.ir_meaning.specs.Runs.{run, events_of}
@@ -14,7 +15,7 @@ abbrev thrower : Active
 thrower = record { call = record { number = 2; made = At (record { seg = 4; at = 0 }) }; body = None }
 
 pub returns : goal.returns
-unfolding run step instr_at entry_of is_exact is_open is_promised
+unfolding run step instr_at entry_of catches_all is_open is_taken is_promised
 returns c = λ honest.
     (recursion_from_All (Permits Nounwind thrower) (events_of (run sample opened (enters_body 4 ∷ goes_on ∷ throws ∷ [])))
     (honest Nounwind thrower refl)).1.0 (_, refl) refl

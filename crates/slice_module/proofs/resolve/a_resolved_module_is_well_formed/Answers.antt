@@ -2,4 +2,4 @@ use Rattle.slice_module.proofs.Formed.{formed}
 use Rattle.slice_module.proofs.resolve.a_resolved_module_is_well_formed.Goals as goal
 
 pub returns : goal.returns
-returns c = λ b m is. formed m b is
+returns c = λ b m small is. formed m b small is

@@ -1,0 +1,8 @@
+use Rattle.std.proofs.Common.{◌≡◌, ℕ, length, arith, subst}
+use Rattle.ir_uses.specs.Noted.{use_at, AreUseListsTo}
+use Rattle.ir_uses.proofs.values.note_module.Goals as goal
+
+pub returns : goal.returns
+returns c =
+    let all : c.loop-seg.seg ≡ length c.args.m.now.segs = omega (arith, c.loop-seg-test.false, c.loop-seg.auto.seg-end, c.len-seg-end.ensures) in
+    subst (λ (x : ℕ). AreUseListsTo c.args.m.now (use_at x 0 0) c.loop-seg.lists) all c.loop-seg.invariant
