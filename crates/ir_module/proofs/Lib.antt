@@ -2,3 +2,4 @@ pub mod Fitting
 pub mod Runs
 pub mod Spots
 pub mod Sizes
+pub mod Each

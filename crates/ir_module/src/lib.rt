@@ -12,6 +12,7 @@ mod module;
 mod op;
 mod operands;
 mod places;
+mod present;
 #[cfg(test)]
 mod tests;
 mod words;
