@@ -3,3 +3,4 @@ pub mod Runs
 pub mod Spots
 pub mod Sizes
 pub mod Each
+pub mod WellFormed

@@ -1,19 +1,25 @@
 -- What makes a module well formed, said of one thing of it at a time.
 use Rattle.std.specs.Prelude.{◌≡◌, ◌<◌, ◌≤◌, ◌+◌, ℕ, length, slice_get, List, Some}
-use Rattle.ir_types.specs.declared.ir_type.IrType.{IrType}
 use Rattle.ir_module.specs.declared.op.Instr.{Instr}
 use Rattle.ir_module.specs.declared.module.Seg.{Seg}
 use Rattle.ir_module.specs.declared.module.Block.{Block}
 use Rattle.ir_module.specs.declared.module.Func.{Func}
+use Rattle.ir_module.specs.declared.module.Param.{Param}
+use Rattle.ir_module.specs.declared.module.Def.TheVariants as def
 use Rattle.ir_module.specs.declared.module.ValueInfo.{ValueInfo}
 use Rattle.ir_module.specs.declared.module.GlobalVar.{GlobalVar}
 use Rattle.ir_module.specs.declared.module.Module.{Module}
+use Rattle.ir_module.specs.Places.{Spot, instr_at}
 use Rattle.ir_module.specs.Operands.{optional}
-use Rattle.ir_module.specs.Formed.{IsBlockOf, IsSegOf, IsPlaced, IsType, AreConstants, IsBlockIn, IsInstrIn, HasResult, IsHeader, IsMadeAt}
+use Rattle.ir_module.specs.Formed.{IsBlockOf, IsSegOf, IsPlaced, IsType, AreConstants, IsBlockIn, IsInstrIn, HasResult, IsHeader, IsMadeAt, IsPartIn, HasFew}
 
 -- P holds of each element, at its place
 abbrev pub Each : {X : Type 0} → List X → (ℕ → X → Type 0) → Type 0
 Each {X} xs P = (k : ℕ) (x : X) → slice_get xs k ≡ Some x → P k x
+
+-- the value of parameter number k of function f names it back
+abbrev pub IsParamFormed : Module → ℕ → ℕ → Param → Type 0
+IsParamFormed m f k p = (info : ValueInfo) × (slice_get m.values p.value.0 ≡ Some info) × (info.func.0 ≡ f) × (info.def ≡ def.Param k) × (info.ty ≡ p.ty)
 
 -- function number f: its header, and its blocks
 pub record IsFuncFormed (m : Module) (f : ℕ) (func : Func) : Type 0 where
@@ -55,6 +61,14 @@ pub record IsSegFormedIn (m : Module) (k : ℕ) (seg : Seg) (b : Block) : Type 0
 abbrev pub IsSegFormed : Module → ℕ → Seg → Type 0
 IsSegFormed m k seg = (b : Block) × (slice_get m.blocks seg.block.0 ≡ Some b) × IsSegFormedIn m k seg b
 
+-- parameter number `at` of function f is the value number v
+abbrev pub IsParamAt : Module → ℕ → ℕ → ℕ → Type 0
+IsParamAt m f at v = (func : Func) × (p : Param) × (slice_get m.funcs f ≡ Some func) × (slice_get func.params at ≡ Some p) × (p.value.0 ≡ v)
+
+-- the instruction at the spot makes the value number v
+abbrev pub IsResultAt : Module → Spot → ℕ → Type 0
+IsResultAt m s v = (instr : Instr) × (instr_at m s ≡ Some instr) × (instr.result ≡ Some (record { 0 = v }))
+
 -- value number v
 pub record IsValueFormed (m : Module) (v : ℕ) (info : ValueInfo) : Type 0 where
   pub ty : IsType m info.ty
@@ -64,3 +78,15 @@ pub record IsValueFormed (m : Module) (v : ℕ) (info : ValueInfo) : Type 0 wher
 pub record IsGlobalFormed (m : Module) (global : GlobalVar) : Type 0 where
   pub ty : IsType m global.ty
   pub init : AreConstants m (optional global.init)
+
+-- each thing of a module is as it should be
+pub record IsEachFormed (m : Module) : Type 0 where
+  pub few : HasFew m
+  pub type_at : length m.type_at ≡ length m.types
+  pub types : Each m.types (λ t type. IsPartIn m type)
+  pub parts : AreConstants m m.parts
+  pub globals : Each m.globals (λ g global. IsGlobalFormed m global)
+  pub funcs : Each m.funcs (IsFuncFormed m)
+  pub blocks : Each m.blocks (IsBlockFormed m)
+  pub segs : Each m.segs (IsSegFormed m)
+  pub values : Each m.values (IsValueFormed m)

@@ -1,6 +1,7 @@
 //! Whether what a module's parts name is there.
 ghost use Rattle.std.specs.Prelude.{◌≡◌, ◌+◌, ◌<◌, ◌≤◌, ◌↔◌, ◌^◌, ℕ, length, slice_get, Some, IsTrue};
 ghost use Rattle.ir_module.specs.Formed as spec;
+ghost use Rattle.ir_module.specs.Each.{Each};
 
 use crate::module::Module;
 use crate::op::{Operand, Shape, Symbol, Written};
@@ -10,6 +11,17 @@ pub(crate) fn is_type(m: &Module, t: TypeId) -> bool
     ensures { IsTrue result ↔ spec.IsType m.now t }
 {
     (t.0 as usize) < m.types.len()
+}
+
+pub(crate) fn are_types(m: &Module, types: &[TypeId]) -> bool
+    ensures { IsTrue result ↔ Each types.now (λ k t. spec.IsType m.now t) }
+{
+    for t in types {
+        if !is_type(m, *t) {
+            return false;
+        }
+    }
+    true
 }
 
 fn is_symbol(m: &Module, symbol: Symbol) -> bool
@@ -78,12 +90,19 @@ fn is_operand_in(m: &Module, f: u32, o: Operand) -> bool
     }
 }
 
+/// Whether a constant's type is there, and what it names.
+pub(crate) fn is_written_constant(m: &Module, w: &Written) -> bool
+    ensures { IsTrue result ↔ (spec.IsType m.now w.now.ty × spec.IsConstant m.now w.now.val) }
+{
+    is_type(m, w.ty) && is_constant(m, w.val)
+}
+
 /// Whether all that constants name is there.
 pub(crate) fn are_constants(m: &Module, ws: &[Written]) -> bool
     ensures { IsTrue result ↔ spec.AreConstants m.now ws.now }
 {
     for w in ws {
-        if !is_type(m, w.ty) || !is_constant(m, w.val) {
+        if !is_written_constant(m, w) {
             return false;
         }
     }
