@@ -15,7 +15,7 @@ use Rattle.ir_module.specs.declared.module.Module.{Module}
 use Rattle.ir_module.specs.Operands.{optional}
 use Rattle.ir_module.specs.Formed.{IsBlockIn, IsType, IsConstant, AreConstants, IsPartIn, sources, written_types}
 use Rattle.ir_module.specs.Formed.{IsWellFormed}
-use Rattle.ir_module.specs.Each.{Each, IsInstrFormed, IsEachFormed}
+use Rattle.ir_module.specs.Each.{Each, IsInstrFormed, IsBlockFormed, IsFuncFormed, HasFormedData, HasFormedBodies}
 use Rattle.ir_module.proofs.Each.{each_headed, each_mapped, each_unmapped}
 
 abbrev pub IsSourceIn : Module → ℕ → ℕ → BlockId → Type 0
@@ -52,8 +52,8 @@ block_same : (m : Module) (i : ℕ) (a b : Block) → slice_get m.blocks i ≡ S
 block_same m i a b e f = cc
 
 -- where each thing is as it should be, the module is well formed
-pub well_formed_of : (m : Module) → IsEachFormed m → IsWellFormed m
-well_formed_of m h = record {
+pub well_formed_of : (m : Module) → HasFormedData m → HasFormedBodies m → IsWellFormed m
+well_formed_of m d h = record {
     blocks = λ f i func e within. (h.funcs f func e).blocks i within;
     homes = λ i b e. (h.blocks i b e).home;
     filled = λ i b e. (h.blocks i b e).filled;
@@ -65,27 +65,32 @@ well_formed_of m h = record {
     instrs = λ k i seg b instr e at here. let q = instr_formed m h k i seg b instr e at here in (q.names, q.result);
     values = λ v info e. let q = h.values v info e in (q.ty, q.made);
     headers = λ f func e. (h.funcs f func e).header;
-    globals = λ g global e. let q = h.globals g global e in (q.ty, q.init);
-    parts = h.parts;
-    types = h.types;
-    few = h.few;
-    type_at = h.type_at;
+    globals = λ g global e. let q = d.globals g global e in (q.ty, q.init);
+    parts = d.parts;
+    types = d.types;
+    few = d.few;
+    type_at = d.type_at;
   }
   where
-  instr_formed : (m : Module) → IsEachFormed m → (k i : ℕ) (seg : Seg) (b : Block) (instr : Instr) → slice_get m.segs k ≡ Some seg
+  instr_formed : (m : Module) → HasFormedBodies m → (k i : ℕ) (seg : Seg) (b : Block) (instr : Instr) → slice_get m.segs k ≡ Some seg
       → slice_get m.blocks seg.block.0 ≡ Some b → slice_get seg.instrs i ≡ Some instr → IsInstrFormed m b k (length seg.instrs) i instr
   instr_formed m h k i seg b instr e at here =
       let q = h.segs k seg e in
       let same : q.0 ≡ b = block_same m seg.block.0 q.0 b q.1 at in
       subst (λ (x : Block). IsInstrFormed m x k (length seg.instrs) i instr) same (q.2.instrs i instr here)
 
-pub each_formed_of : (m : Module) → IsWellFormed m → IsEachFormed m
-each_formed_of m w = record {
+-- in a well formed module each thing is as it should be
+pub data_of : (m : Module) → IsWellFormed m → HasFormedData m
+data_of m w = record {
     few = w.few;
     type_at = w.type_at;
     types = w.types;
     parts = w.parts;
     globals = λ g global e. let q = w.globals g global e in record { ty = q.0; init = q.1 };
+  }
+
+pub bodies_of : (m : Module) → IsWellFormed m → HasFormedBodies m
+bodies_of m w = record {
     funcs = λ f func e. record { header = w.headers f func e; blocks = λ i within. w.blocks f i func e within };
     blocks = λ i b e. record {
         home = w.homes i b e;

@@ -79,13 +79,16 @@ pub record IsGlobalFormed (m : Module) (global : GlobalVar) : Type 0 where
   pub ty : IsType m global.ty
   pub init : AreConstants m (optional global.init)
 
--- each thing of a module is as it should be
-pub record IsEachFormed (m : Module) : Type 0 where
+-- the sizes, types, constants and globals of a module are as they should be
+pub record HasFormedData (m : Module) : Type 0 where
   pub few : HasFew m
   pub type_at : length m.type_at ≡ length m.types
   pub types : Each m.types (λ t type. IsPartIn m type)
   pub parts : AreConstants m m.parts
   pub globals : Each m.globals (λ g global. IsGlobalFormed m global)
+
+-- the functions, blocks, segments and values of a module are as they should be
+pub record HasFormedBodies (m : Module) : Type 0 where
   pub funcs : Each m.funcs (IsFuncFormed m)
   pub blocks : Each m.blocks (IsBlockFormed m)
   pub segs : Each m.segs (IsSegFormed m)

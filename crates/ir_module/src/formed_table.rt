@@ -82,10 +82,10 @@ fn is_func_formed(m: &Module, f: usize, func: &Func) -> bool
     is_header(m, f, func) && has_blocks(m, f, func)
 }
 
-pub(crate) fn are_funcs_formed(m: &Module, funcs: &[Func]) -> bool
-    ensures { IsTrue result ↔ Each funcs.now (each.IsFuncFormed m.now) }
+pub(crate) fn are_funcs_formed(m: &Module) -> bool
+    ensures { IsTrue result ↔ Each m.now.funcs (each.IsFuncFormed m.now) }
 {
-    for (f, func) in funcs.iter().enumerate() {
+    for (f, func) in m.funcs.as_slice().iter().enumerate() {
         if !is_func_formed(m, f, func) {
             return false;
         }
@@ -155,11 +155,11 @@ fn is_block_formed(m: &Module, i: usize, block: &Block) -> bool
         && is_followed(m, i, block)
 }
 
-pub(crate) fn are_blocks_formed(m: &Module, blocks: &[Block]) -> bool
-    requires { length blocks.now < 2 ^ 31 }
-    ensures { IsTrue result ↔ Each blocks.now (each.IsBlockFormed m.now) }
+pub(crate) fn are_blocks_formed(m: &Module) -> bool
+    requires { length m.now.blocks < 2 ^ 31 }
+    ensures { IsTrue result ↔ Each m.now.blocks (each.IsBlockFormed m.now) }
 {
-    for (i, block) in blocks.iter().enumerate() {
+    for (i, block) in m.blocks.as_slice().iter().enumerate() {
         if !is_block_formed(m, i, block) {
             return false;
         }
@@ -212,10 +212,10 @@ fn is_seg_formed(m: &Module, k: usize, seg: &Seg) -> bool
     }
 }
 
-pub(crate) fn are_segs_formed(m: &Module, segs: &[Seg]) -> bool
-    ensures { IsTrue result ↔ Each segs.now (each.IsSegFormed m.now) }
+pub(crate) fn are_segs_formed(m: &Module) -> bool
+    ensures { IsTrue result ↔ Each m.now.segs (each.IsSegFormed m.now) }
 {
-    for (k, seg) in segs.iter().enumerate() {
+    for (k, seg) in m.segs.as_slice().iter().enumerate() {
         if !is_seg_formed(m, k, seg) {
             return false;
         }
@@ -282,10 +282,10 @@ fn is_made(m: &Module, v: usize, info: &ValueInfo) -> bool
     }
 }
 
-pub(crate) fn are_values_formed(m: &Module, values: &[ValueInfo]) -> bool
-    ensures { IsTrue result ↔ Each values.now (each.IsValueFormed m.now) }
+pub(crate) fn are_values_formed(m: &Module) -> bool
+    ensures { IsTrue result ↔ Each m.now.values (each.IsValueFormed m.now) }
 {
-    for (v, info) in values.iter().enumerate() {
+    for (v, info) in m.values.as_slice().iter().enumerate() {
         if !is_type(m, info.ty) || !is_made(m, v, info) {
             return false;
         }
@@ -304,10 +304,16 @@ fn is_optional_constant(m: &Module, init: &Option<Written>) -> bool
     }
 }
 
-pub(crate) fn are_globals_formed(m: &Module, globals: &[GlobalVar]) -> bool
-    ensures { IsTrue result ↔ Each globals.now (λ g global. each.IsGlobalFormed m.now global) }
+pub(crate) fn are_parts_formed(m: &Module) -> bool
+    ensures { IsTrue result ↔ spec.AreConstants m.now m.now.parts }
 {
-    for global in globals {
+    are_constants(m, m.parts.as_slice())
+}
+
+pub(crate) fn are_globals_formed(m: &Module) -> bool
+    ensures { IsTrue result ↔ Each m.now.globals (λ g global. each.IsGlobalFormed m.now global) }
+{
+    for global in m.globals.as_slice() {
         if !is_type(m, global.ty) || !is_optional_constant(m, &global.init) {
             return false;
         }
@@ -326,10 +332,10 @@ fn has_parts(m: &Module, ty: &IrType) -> bool
     }
 }
 
-pub(crate) fn are_types_formed(m: &Module, types: &[IrType]) -> bool
-    ensures { IsTrue result ↔ Each types.now (λ t type. spec.IsPartIn m.now type) }
+pub(crate) fn are_types_formed(m: &Module) -> bool
+    ensures { IsTrue result ↔ Each m.now.types (λ t type. spec.IsPartIn m.now type) }
 {
-    for ty in types {
+    for ty in m.types.as_slice() {
         if !has_parts(m, ty) {
             return false;
         }

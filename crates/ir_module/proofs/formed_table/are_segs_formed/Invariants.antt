@@ -4,4 +4,4 @@ use Rattle.ir_module.proofs.Each.{EachOf}
 use Rattle.ir_module.proofs.formed_table.are_segs_formed.Given as goal
 
 abbrev pub invariant-loop-k : goal.invariant-loop-k
-invariant-loop-k l = EachOf l.k l.segs (IsSegFormed l.m)
+invariant-loop-k l = EachOf l.k l.m.segs (IsSegFormed l.m)

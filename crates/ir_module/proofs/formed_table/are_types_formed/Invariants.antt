@@ -4,4 +4,4 @@ use Rattle.ir_module.proofs.Each.{EachOf}
 use Rattle.ir_module.proofs.formed_table.are_types_formed.Given as goal
 
 abbrev pub invariant-loop-ty : goal.invariant-loop-ty
-invariant-loop-ty l = EachOf l.ty-index l.types (λ t type. IsPartIn l.m type)
+invariant-loop-ty l = EachOf l.ty-index l.m.types (λ t type. IsPartIn l.m type)

@@ -4,4 +4,4 @@ use Rattle.ir_module.proofs.Each.{EachOf}
 use Rattle.ir_module.proofs.formed_table.are_values_formed.Given as goal
 
 abbrev pub invariant-loop-v : goal.invariant-loop-v
-invariant-loop-v l = EachOf l.v l.values (IsValueFormed l.m)
+invariant-loop-v l = EachOf l.v l.m.values (IsValueFormed l.m)
