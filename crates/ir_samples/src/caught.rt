@@ -3,7 +3,7 @@ use crate::operands::{func_name, written};
 use crate::tables::{
     BlockRun, block, declaration, definition, empty_module, info, seg, seg_of_two,
 };
-use crate::types::{I32, LANDED, PTR, VOID};
+use crate::type_table::{I32, LANDED, PTR, VOID};
 use attr_ids::{NoMemory, SegId};
 use ir_module::{Def, Func, Linkage, Module, Operand, Operands, Seg};
 use std::alloc::Global;

@@ -1,7 +1,7 @@
 use crate::instrs::{branch, call, jump, named, phi, ret};
 use crate::operands::value;
 use crate::tables::{BlockRun, block, definition, empty_module, info, param, seg, seg_of_two};
-use crate::types::{I1, PTR};
+use crate::type_table::{I1, PTR};
 use crate::words::param_words;
 use attr_ids::{NoMemory, SegId, TypeId};
 use ir_module::{Def, Func, Linkage, Module, Seg};

@@ -1,7 +1,7 @@
 use crate::instrs::{alloca, call, instr, ret};
 use crate::operands::value;
 use crate::tables::{BlockRun, block, definition, empty_module, info, param, seg, seg_of_two};
-use crate::types::{I64, PTR, VOID};
+use crate::type_table::{I64, PTR, VOID};
 use crate::words::{align, nounwind};
 use attr_ids::{NoMemory, SegId};
 use ir_module::{Def, Func, Linkage, Module, Seg};

@@ -2,7 +2,7 @@
 ghost use Rattle.std.specs.Prelude.{◌≡◌, IfOk};
 
 use crate::operands::func_name;
-use crate::types::{I1, LANDED, PTR, VOID};
+use crate::type_table::{I1, LANDED, PTR, VOID};
 use crate::words::{no_words, param_words};
 use attr_ids::{BlockId, NoMemory, Offsets, Span, TypeId, ValueId};
 use ir_module::{

@@ -1,6 +1,6 @@
 use crate::instrs::{call, instr, ret};
 use crate::tables::{BlockRun, block, definition, empty_module, seg};
-use crate::types::VOID;
+use crate::type_table::VOID;
 use attr_ids::NoMemory;
 use ir_module::{Func, Linkage, Module, Seg};
 use std::alloc::Global;

@@ -12,7 +12,7 @@ mod stored;
 mod tables;
 #[cfg(test)]
 mod tests;
-mod types;
+mod type_table;
 mod words;
 
 pub use caught::caught_call;
@@ -27,5 +27,5 @@ pub use stored::stored_parameter;
 pub use tables::{
     BlockRun, block, declaration, definition, empty_module, info, param, seg, seg_of_two,
 };
-pub use types::{I1, I32, I64, LANDED, PTR, TRIPLE, VOID, types};
+pub use type_table::{I1, I32, I64, LANDED, PTR, TRIPLE, VOID, types};
 pub use words::{align, no_words, nounwind, param_words};

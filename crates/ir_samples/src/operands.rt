@@ -1,5 +1,5 @@
 //! Operands with their types.
-use crate::types::PTR;
+use crate::type_table::PTR;
 use attr_ids::{FuncId, GlobalId, TypeId, ValueId};
 use ir_module::{Operand, Written};
 

@@ -1,7 +1,7 @@
 use crate::instrs::{alloca, call, instr, ret, store};
 use crate::operands::{global_name, int, value, written};
 use crate::tables::{BlockRun, block, definition, empty_module, info, param, seg, seg_of_two};
-use crate::types::{I32, I64, PTR, TRIPLE, VOID};
+use crate::type_table::{I32, I64, PTR, TRIPLE, VOID};
 use crate::words::param_words;
 use attr_ids::{NoMemory, SegId, Text};
 use ir_module::{Def, Func, GlobalVar, Linkage, Module, Operand, Seg};

@@ -1,5 +1,5 @@
 //! The entries of a module's tables, and a module to put them into.
-use crate::types::types;
+use crate::type_table::types;
 use crate::words::{no_words, param_words};
 use attr_ids::{BlockId, FuncId, NoMemory, Offsets, Text, TypeId, ValueId};
 use ir_module::{
