@@ -3,3 +3,4 @@ pub mod Edges
 pub mod Operands
 pub mod Calls
 pub mod Formed
+pub mod Each

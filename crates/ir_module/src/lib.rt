@@ -8,10 +8,14 @@ mod callee;
 mod class;
 mod edge;
 mod few;
+mod formed;
+mod formed_instr;
+mod formed_table;
 mod module;
 mod op;
 mod operands;
 mod places;
+mod present;
 #[cfg(test)]
 mod tests;
 mod words;
@@ -20,6 +24,7 @@ pub use callee::direct_callee;
 pub use class::{CallView, Class, call_of, class_of};
 pub use edge::{Edge, Way};
 pub use few::has_few;
+pub use formed::is_well_formed;
 pub use module::{
     Block, Blocks, Def, Func, Funcs, GlobalVar, Globals, Linkage, Module, Param, Params, Seg, Segs,
     ValueInfo, Values,

@@ -85,6 +85,13 @@ impl TypeTable {
         &self.types[t.0 as usize]
     }
 
+    /// The types, each at its number.
+    pub fn as_slice(&self) -> &[IrType]
+        ensures { result.now ≡ self.now }
+    {
+        &self.types
+    }
+
     /// Puts a type at the end, which may name types that are put in later, and itself.
     pub fn add(&mut self, alloc: Global, t: IrType) -> Result<TypeId, NoMemory>
         requires room { length self.old < 2 ^ 31 }

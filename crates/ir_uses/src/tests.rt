@@ -1,216 +1,29 @@
 use super::*;
-use attr_ids::{BlockId, FuncId, NoMemory, Offsets, SegId, Sequence, Span, Text, TypeId, ValueId};
-use ir_module::{
-    Block, Blocks, CallPlaces, CallWords, Def, Func, FuncPlaces, FuncType, FuncWords, Funcs,
-    Globals, Instr, Instrs, Linkage, Module, Op, Operand, Operands, Param, ParamWords,
-    ParamWordsList, Params, Seg, Segs, ValueInfo, Values, Written, has_few,
+use attr_ids::{FuncId, NoMemory, SegId, Sequence, ValueId};
+use ir_module::{Def, Instr, Linkage, Module, Operand, Seg, Symbol, has_few, is_well_formed};
+use ir_samples::{
+    BlockRun, I32, PTR, VOID, block, call, caught_call, chosen_parameter,
+    definition, empty_module, func_name, icmp, info, instr, invoke, leaf_and_caller, named, param,
+    param_words, ret, seg, seg_of_two, store, stored_parameter, value, written,
 };
-use ir_types::{IrType, TypeTable};
 use std::alloc::Global;
 use std::test::Fail;
 
-const I32: u32 = 0;
-
-const PTR: u32 = 1;
-
-fn value(v: u32) -> Written {
-    written(Operand::Value(ValueId(v)), I32)
-}
-
-fn written(val: Operand, ty: u32) -> Written {
-    Written {
-        val,
-        ty: TypeId(ty),
-        at: 0,
-    }
-}
-
-fn no_words() -> FuncWords {
-    FuncWords {
-        nounwind: false,
-        noreturn: false,
-        nofree: false,
-        norecurse: false,
-        nocallback: false,
-        memory: None,
-    }
-}
-
-fn no_param_words() -> ParamWords {
-    ParamWords {
-        nonnull: false,
-        nocapture: false,
-        captures: false,
-        readnone: false,
-        readonly: false,
-        writeonly: false,
-        returned: false,
-        sret: false,
-        writable: false,
-        align: 0,
-        dereferenceable: 0,
-        bad: false,
-    }
-}
-
-/// A body `i32 (i32)` of one block.
-fn body(alloc: Global, linkage: Linkage, param: u32, block: u32) -> Result<Func, NoMemory> {
-    let param = Param {
-        value: ValueId(param),
-        ty: TypeId(I32),
-        words: no_param_words(),
-        place: 0,
-    };
-    Ok(Func {
-        name: Text::new(alloc),
-        linkage,
-        ret: TypeId(I32),
-        ret_words: no_param_words(),
-        params: Params::from_slice(alloc, &[param])?,
-        variadic: false,
-        words: no_words(),
-        places: FuncPlaces { ret: 0, after: 0 },
-        personality: false,
-        extra: Operands::new(alloc),
-        at: 0,
-        first_block: block,
-        block_count: 1,
-    })
-}
-
-/// A call of function 0 with value `arg`, through the type `i32 (param)`.
-fn call(alloc: Global, param: u32, arg: u32) -> Result<Op, NoMemory> {
-    Ok(Op::Call {
-        func_ty: FuncType {
-            ret: TypeId(I32),
-            params: Sequence::from_slice(alloc, &[TypeId(param)])?,
-            variadic: false,
-        },
-        callee: written(Operand::Func(FuncId(0)), PTR),
-        args: Operands::from_slice(alloc, &[value(arg)])?,
-        words: CallWords {
-            func: no_words(),
-            ret: no_param_words(),
-            args: ParamWordsList::from_slice(alloc, &[no_param_words()])?,
-        },
-        places: CallPlaces {
-            ret: 0,
-            after: 0,
-            args: Offsets::from_slice(alloc, &[0])?,
-        },
-    })
-}
-
-fn instr(op: Op, made: Option<ValueId>) -> Instr {
-    Instr {
-        result: made,
-        named: false,
-        ty: TypeId(I32),
-        op,
-        span: Span { from: 0, to: 0 },
-    }
-}
-
-fn seg(alloc: Global, block: u32, op: Op, made: Option<ValueId>) -> Result<Seg, NoMemory> {
-    let mut instrs = Instrs::new(alloc);
-    instrs.push(instr(op, made))?;
-    Ok(Seg {
-        block: BlockId(block),
-        instrs,
-    })
-}
-
-fn block(alloc: Global, func: u32, first_seg: u32, seg_count: u32) -> Block {
-    Block {
-        func: FuncId(func),
-        name: Text::new(alloc),
-        first_seg,
-        seg_count,
-    }
-}
-
-fn info(func: u32, def: Def) -> ValueInfo {
-    ValueInfo {
-        func: FuncId(func),
-        ty: TypeId(I32),
-        def,
-    }
-}
-
-/// Function 0 is internal and returns its parameter, value 0. Function 1 calls it with its own parameter, value 1,
-/// through the type `i32 (param)`, and returns the result, value 2.
-fn module(alloc: Global, param: u32) -> Result<Module, NoMemory> {
-    let mut types = TypeTable::new(alloc);
-    types.add(alloc, IrType::Int { width: 32 })?;
-    types.add(alloc, IrType::Ptr)?;
-    let mut funcs = Funcs::new(alloc);
-    funcs.push(body(alloc, Linkage::Internal, 0, 0)?)?;
-    funcs.push(body(alloc, Linkage::Plain, 1, 1)?)?;
-    let mut blocks = Blocks::new(alloc);
-    blocks.push(block(alloc, 0, 0, 1))?;
-    blocks.push(block(alloc, 1, 1, 2))?;
-    let mut segs = Segs::new(alloc);
-    segs.push(seg(
-        alloc,
-        0,
-        Op::Ret {
-            val: Some(value(0)),
-        },
-        None,
-    )?)?;
-    segs.push(seg(alloc, 1, call(alloc, param, 1)?, Some(ValueId(2)))?)?;
-    segs.push(seg(
-        alloc,
-        1,
-        Op::Ret {
-            val: Some(value(2)),
-        },
-        None,
-    )?)?;
-    let made = Def::Instr {
-        seg: SegId(1),
-        index: 0,
-    };
-    Ok(Module {
-        types,
-        globals: Globals::new(alloc),
-        funcs,
-        blocks,
-        segs,
-        values: Values::from_slice(
-            alloc,
-            &[
-                info(0, Def::Param(0)),
-                info(1, Def::Param(0)),
-                info(1, made),
-            ],
-        )?,
-        parts: Operands::new(alloc),
-        type_at: Offsets::from_slice(alloc, &[0, 0])?,
-    })
-}
-
-/// The one use of a value.
-fn only_use(u: &Uses, v: u32) -> Option<Use> {
+/// The uses of a value, and none of one that is not there.
+fn uses_of(u: &Uses, v: u32) -> &[Use] {
     if (v as usize) < u.values.len() {
-        let list = u.of_value(ValueId(v));
-        if list.len() == 1 {
-            return list.get(0).copied();
-        }
+        u.of_value(ValueId(v)).as_slice()
+    } else {
+        &[]
     }
-    None
 }
 
-/// The one caller of function 0.
-fn only_caller(u: &Uses) -> Option<CallSite> {
-    if u.callers.is_empty() {
-        return None;
-    }
-    let list = u.callers(FuncId(0));
-    if list.len() == 1 {
-        list.get(0).copied()
+/// The direct calls of a function, and none of one that is not there.
+fn callers_of(u: &Uses, f: u32) -> &[CallSite] {
+    if (f as usize) < u.callers.len() {
+        u.callers(FuncId(f)).as_slice()
     } else {
-        None
+        &[]
     }
 }
 
@@ -226,34 +39,160 @@ fn use_at(seg: u32, index: u32, operand: u32) -> Use {
     }
 }
 
+fn site(seg: u32, index: u32) -> CallSite {
+    CallSite {
+        seg: SegId(seg),
+        index,
+    }
+}
+
+/// Puts another entry in the place of one, if there is one.
+fn put<T: Drop>(table: &mut Sequence<T>, at: usize, entry: T) {
+    if at < table.len() {
+        table.set(at, entry);
+    }
+}
+
+/// The caller of a leaf, function 0, with one more instruction before its return.
+fn caller_with(alloc: Global, first: Instr) -> Result<Module, NoMemory> {
+    let mut m = leaf_and_caller(alloc)?;
+    let made = Def::Instr {
+        seg: SegId(2),
+        index: 0,
+    };
+    if first.result.is_some() {
+        m.values.push(info(1, first.ty, made))?;
+    }
+    put(&mut m.segs, 2, seg_of_two(alloc, 1, first, ret(None))?);
+    Ok(m)
+}
+
+/// The caller of a leaf, function 0, with another segment in the place of its call.
+fn caller_by(alloc: Global, called: Seg) -> Result<Module, NoMemory> {
+    let mut m = leaf_and_caller(alloc)?;
+    put(&mut m.segs, 1, called);
+    Ok(m)
+}
+
+/// A body with one parameter, value 1, that is given to an `invoke` of function 0 twice.
+fn invoke_with_arguments(alloc: Global) -> Result<Module, NoMemory> {
+    let mut m = empty_module(alloc)?;
+    let none = BlockRun { first: 0, count: 0 };
+    let both = BlockRun { first: 0, count: 2 };
+    let given = [param(0, PTR, param_words())];
+    let taken = [param(1, PTR, param_words())];
+    let plain = Linkage::Plain;
+    m.funcs
+        .push(definition(alloc, b"take", plain, VOID, &given, none)?)?;
+    m.funcs
+        .push(definition(alloc, b"f", plain, VOID, &taken, both)?)?;
+    m.blocks.push(block(alloc, 1, b"0", 0, 1)?)?;
+    m.blocks.push(block(alloc, 1, b"end", 1, 1)?)?;
+    let args = [value(1, PTR), value(1, PTR)];
+    let invoked = instr(invoke(alloc, VOID, 0, &args, 1, 1)?);
+    m.segs.push(seg(alloc, 0, invoked)?)?;
+    m.segs.push(seg(alloc, 1, ret(None))?)?;
+    m.values.push(info(0, PTR, Def::Param(0)))?;
+    m.values.push(info(1, PTR, Def::Param(0)))?;
+    Ok(m)
+}
+
 #[test]
-fn a_direct_call_is_a_use_of_its_argument(rt: HostRuntime) -> Result<(), Fail> {
+fn calls_and_stores_use_their_operands(rt: HostRuntime) -> Result<(), Fail> {
     let alloc = rt.alloc();
-    let m = module(alloc, I32)?;
+    let m = stored_parameter(alloc)?;
     assert!(rt; has_few(&m));
     let u = uses(alloc, &m)?;
-    assert_eq!(rt; only_use(&u, 0), Some(use_at(0, 0, 0)));
-    assert_eq!(rt; only_use(&u, 1), Some(use_at(1, 0, 1)));
-    assert_eq!(rt; only_use(&u, 2), Some(use_at(2, 0, 0)));
-    assert_eq!(rt;
-        only_caller(&u),
-        Some(CallSite {
-            seg: SegId(1),
-            index: 0
-        })
-    );
+    assert_eq!(rt; uses_of(&u, 0), [use_at(0, 0, 1)].as_slice());
+    assert_eq!(rt; uses_of(&u, 1), [use_at(1, 1, 1)].as_slice());
+    assert_eq!(rt; callers_of(&u, 0), [site(1, 1), site(2, 0)].as_slice());
+    assert!(rt; callers_of(&u, 1).is_empty());
     assert!(rt; !is_open(&u, 0));
     assert!(rt; is_open(&u, 1));
     Ok(())
 }
 
 #[test]
-fn a_call_through_another_type_takes_the_address(rt: HostRuntime) -> Result<(), Fail> {
+fn a_value_that_stands_twice_is_used_twice(rt: HostRuntime) -> Result<(), Fail> {
     let alloc = rt.alloc();
-    let m = module(alloc, PTR)?;
+    let m = chosen_parameter(alloc)?;
     assert!(rt; has_few(&m));
     let u = uses(alloc, &m)?;
-    assert_eq!(rt; only_caller(&u), None);
-    assert!(rt; is_open(&u, 0));
+    let of_p = [use_at(2, 0, 1), use_at(2, 0, 2), use_at(4, 0, 0)];
+    assert_eq!(rt; uses_of(&u, 3), of_p.as_slice());
+    assert_eq!(rt; uses_of(&u, 4), [use_at(4, 0, 1)].as_slice());
+    assert_eq!(rt; uses_of(&u, 5), [use_at(4, 1, 0)].as_slice());
+    assert_eq!(rt; uses_of(&u, 2), [use_at(1, 0, 0)].as_slice());
+    assert!(rt; uses_of(&u, 1).is_empty());
+    Ok(())
+}
+
+#[test]
+fn an_invoke_uses_its_arguments(rt: HostRuntime) -> Result<(), Fail> {
+    let alloc = rt.alloc();
+    let m = invoke_with_arguments(alloc)?;
+    assert!(rt; is_well_formed(&m));
+    let u = uses(alloc, &m)?;
+    let twice = [use_at(0, 0, 1), use_at(0, 0, 2)];
+    assert_eq!(rt; uses_of(&u, 1), twice.as_slice());
+    assert!(rt; callers_of(&u, 0).is_empty());
+    let m = caught_call(alloc)?;
+    assert!(rt; has_few(&m));
+    let u = uses(alloc, &m)?;
+    assert_eq!(rt; callers_of(&u, 0), [site(0, 0)].as_slice());
+    assert!(rt; !is_open(&u, 1));
+    assert!(rt; is_open(&u, 2));
+    Ok(())
+}
+
+/// Whether function 0 is open to the outside, in a module that is well formed.
+fn opens_leaf(alloc: Global, m: &Module) -> Result<Option<bool>, NoMemory> {
+    if !is_well_formed(m) {
+        return Ok(None);
+    }
+    let u = uses(alloc, m)?;
+    Ok(Some(is_open(&u, 0)))
+}
+
+#[test]
+fn a_name_that_is_stored_or_compared_is_taken(rt: HostRuntime) -> Result<(), Fail> {
+    let alloc = rt.alloc();
+    let null = written(Operand::Null, PTR);
+    let m = caller_with(alloc, store(null, null, 8))?;
+    assert_eq!(rt; opens_leaf(alloc, &m)?, Some(false));
+    let m = caller_with(alloc, store(func_name(0), null, 8))?;
+    assert_eq!(rt; opens_leaf(alloc, &m)?, Some(true));
+    let m = caller_with(alloc, icmp(0, func_name(0), null))?;
+    assert_eq!(rt; opens_leaf(alloc, &m)?, Some(true));
+    let behind = Operand::Offset {
+        base: Symbol::Func(FuncId(0)),
+        bytes: 8,
+        inbounds: false,
+        wrap: false,
+    };
+    let m = caller_with(alloc, store(written(behind, PTR), null, 8))?;
+    assert_eq!(rt; opens_leaf(alloc, &m)?, Some(true));
+    Ok(())
+}
+
+#[test]
+fn a_name_is_taken_as_argument_and_through_another_type(rt: HostRuntime) -> Result<(), Fail> {
+    let alloc = rt.alloc();
+    let passed = instr(call(alloc, VOID, 1, &[func_name(0)])?);
+    let m = caller_by(alloc, seg(alloc, 1, passed)?)?;
+    assert_eq!(rt; opens_leaf(alloc, &m)?, Some(true));
+    let other = named(0, I32, call(alloc, I32, 0, &[])?);
+    let mut m = caller_by(alloc, seg(alloc, 1, other)?)?;
+    let made = Def::Instr {
+        seg: SegId(1),
+        index: 0,
+    };
+    m.values.push(info(1, I32, made))?;
+    assert_eq!(rt; opens_leaf(alloc, &m)?, Some(true));
+    assert!(rt; has_few(&m));
+    let u = uses(alloc, &m)?;
+    assert!(rt; callers_of(&u, 0).is_empty());
+    let m = leaf_and_caller(alloc)?;
+    assert_eq!(rt; opens_leaf(alloc, &m)?, Some(false));
     Ok(())
 }
