@@ -1,0 +1,4 @@
+pub mod Longest
+pub mod LongestTypes
+pub mod LongestConstants
+pub mod LongestFlags
