@@ -1,4 +1,5 @@
 pub mod Longest
+pub mod LongestRest
 pub mod LongestTypes
 pub mod LongestConstants
 pub mod LongestFlags

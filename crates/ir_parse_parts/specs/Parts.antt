@@ -1,5 +1,5 @@
 -- Parts of productions that have functions of their own.
-use Rattle.std.specs.Prelude.{◌≡◌, ℕ, suc, List, None}
+use Rattle.std.specs.Prelude.{ℕ, suc, List, [], ◌∷◌}
 use Rattle.ir_tree.specs.declared.terminal.Terminal.{Terminal}
 use Rattle.ir_tree.specs.declared.terminal.Terminal.TheVariants as k
 use Rattle.ir_tree.specs.Steps.{Step, ◌⨾◌, among, sees, when, the, leaf}
@@ -16,6 +16,6 @@ any_of toks set a = when (sees toks (among set) a) (suc a)
 abbrev pub in_range : List Terminal → ℕ × ℕ → Step
 in_range toks x = the toks k.InRange ⨾ the toks k.LeftParen ⨾ leaf toks k.Int x.0 ⨾ the toks k.Comma ⨾ leaf toks k.Int x.1 ⨾ the toks k.RightParen
 
--- no constant of one token begins here
-abbrev pub NoLeaf : List Terminal → ℕ → Type 0
-NoLeaf toks a = (None ≡ the toks k.Int a) × (None ≡ the toks k.True a) × (None ≡ the toks k.False a) × (None ≡ the toks k.Null a) × (None ≡ the toks k.Undef a) × (None ≡ the toks k.Poison a) × (None ≡ the toks k.Zero a) × (None ≡ the toks k.Global a) × (None ≡ the toks k.CStr a)
+-- the terminals that are a constant by themselves
+abbrev pub constant_words : List Terminal
+constant_words = k.Int ∷ k.True ∷ k.False ∷ k.Null ∷ k.Undef ∷ k.Poison ∷ k.Zero ∷ k.Global ∷ k.CStr ∷ []
