@@ -3,3 +3,4 @@ pub mod LongestRest
 pub mod LongestTypes
 pub mod LongestConstants
 pub mod LongestFlags
+pub mod LongestValues

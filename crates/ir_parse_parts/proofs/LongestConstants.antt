@@ -16,11 +16,11 @@ use Rattle.ir_tree.specs.Types.{ty}
 use Rattle.ir_tree.specs.Constants.{iflag, gepflag, const_layer, tconst_layer, const, tconst}
 use Rattle.ir_tree.proofs.Clear.{pair, choice, separated_map, some_next_map, moves, split}
 use Rattle.ir_tree.proofs.Known.{Known, the_of, pair_of, separated_of, some_of, next_of, many_of}
-use Rattle.ir_tree.proofs.ClearTypes.{ty_of, ty_reads}
+use Rattle.ir_tree.proofs.ClearTypes.{ty_of}
 use Rattle.ir_tree.proofs.ClearConstants.{const_reads, const_of, tconst_of, tconst_reads, gepflag_known, iflag_of, ArrayShape, PackedShape, GepShape, CastShape, BinopShape, back, shape, view, array, struct, packed, gep, cast, binop}
 use Rattle.ir_parse_parts.specs.Parts.{any_of, constant_words}
 use Rattle.ir_parse_parts.proofs.Longest.{taken, leaf_is_the, leaf_none, the_none, choice_none, pair_none, longest_by, none_by, pair_some, separated_some}
-use Rattle.ir_parse_parts.proofs.LongestRest.{stop, past_the, past_leaf, past_one, ends_behind, not_among, none_among}
+use Rattle.ir_parse_parts.proofs.LongestRest.{stop, past_the, past_leaf, past_one, past_ty, ends_behind, not_among, none_among}
 use Rattle.ir_parse_parts.proofs.LongestTypes.{the_moves}
 
 module _ (toks : List Terminal) where
@@ -96,9 +96,6 @@ module _ (toks : List Terminal) where
 
   abbrev the_unit : Terminal → Unit {0} → Step
   the_unit t = λ _. the toks t
-
-  past_ty : {U : Type 0} (q : U → Step) (a b : ℕ) (t : Ty) → Longest (ty toks) a (Some (t, b)) → Longest q b None → Longest (pair (ty toks) q) a None
-  past_ty q a b t long none = past_one toks q a b (ty_reads toks a) t long none
 
   past_tconst : {U : Type 0} (q : U → Step) (a b : ℕ) (t : Tconst) → Longest (tconst toks) a (Some (t, b)) → Longest q b None → Longest (pair (tconst toks) q) a None
   past_tconst q a b t long none = past_one toks q a b (tconst_reads toks a) t long none
@@ -196,7 +193,7 @@ module _ (toks : List Terminal) where
 
         module _ (elem : Ty) (comma : ℕ) (typed : Longest (ty toks) inner (Some (elem, comma))) where
           gep_elem : Longest operands_close comma None → Longest (const toks) a None
-          gep_elem none = gep_flags (past_the toks _ k.LeftParen paren inner opened (past_ty _ inner comma elem typed none))
+          gep_elem none = gep_flags (past_the toks _ k.LeftParen paren inner opened (past_ty toks _ inner comma elem typed none))
 
           pub gep_no_operands : Longest (some (next toks (tconst toks))) comma None → Longest (const toks) a None
           gep_no_operands n = gep_elem (stop (some (next toks (tconst toks))) _ comma n)
@@ -238,7 +235,7 @@ module _ (toks : List Terminal) where
 
           module _ (to : Ty) (close : ℕ) (typed : Longest (ty toks) target (Some (to, close))) where
             pub cast_no_close : None ≡ the toks k.RightParen close → Longest (const toks) a None
-            cast_no_close n = cast_operand (past_the toks _ k.To word target to_word (past_ty (the_unit k.RightParen) target close to typed (the_none toks k.RightParen close n)))
+            cast_no_close n = cast_operand (past_the toks _ k.To word target to_word (past_ty toks (the_unit k.RightParen) target close to typed (the_none toks k.RightParen close n)))
 
             pub cast_ends : (end : ℕ) → Some end ≡ the toks k.RightParen close → Longest (const toks) a (Some (const_is.Cast a of to, end))
             cast_ends end e =
@@ -304,7 +301,7 @@ module _ (toks : List Terminal) where
   tconst_no_ty a none = λ t c e. stop (ty toks) (const toks) a none (t.ty, t.value) c e
 
   pub tconst_no_value : (a m : ℕ) (t : Ty) → Longest (ty toks) a (Some (t, m)) → Longest (const toks) m None → Longest (tconst toks) a None
-  tconst_no_value a m t l none = λ u c e. past_ty (const toks) a m t l none (u.ty, u.value) c e
+  tconst_no_value a m t l none = λ u c e. past_ty toks (const toks) a m t l none (u.ty, u.value) c e
 
   -- ---- where parts end
   pub iflags_end : (a n : ℕ) (flags : List ℕ) → Longest (many (iflag toks)) a (Some (flags, n)) → a ≤ n

@@ -5,10 +5,13 @@ use Rattle.std.specs.List.{AllByRecursion}
 use denote.Enum.Bare.{same_true}
 use Rattle.ir_tree.specs.contracts.terminal.Terminal.{the_type}
 use Rattle.ir_tree.specs.declared.terminal.Terminal.{Terminal}
+use Rattle.ir_tree.specs.declared.types.Ty.{Ty}
+use Rattle.ir_tree.specs.Types.{ty}
 use Rattle.ir_tree.specs.Steps.{Step, is, among, seen, sees, stands, when, the, leaf, Longest}
 use Rattle.ir_tree.proofs.Looks.{Look, token_seen}
 use Rattle.ir_tree.proofs.Clear.{Reads, pair, split, some_same, rises, when_true}
 use Rattle.ir_tree.proofs.Known.{Known}
+use Rattle.ir_tree.proofs.ClearTypes.{ty_reads}
 use Rattle.ir_parse_parts.specs.Parts.{any_of}
 use Rattle.ir_parse_parts.proofs.Longest.{nothing, the_of_leaf}
 
@@ -33,6 +36,10 @@ module _ (toks : List Terminal) {U : Type 0} (q : U → Step) where
     where
       ends : (u : T) (c : ℕ) → p u a ≡ Some c → c ≡ b
       ends u c e = ⊎_elim (λ same. some_same c b (sym e ∙ ap (λ z. p z a) (sym same) ∙ long.0)) (λ d. ⊎_elim (λ h. absurd h.1) (λ h. absurd h.1) d) (reads.clear t u b c long.0 e)
+
+  -- a type
+  pub past_ty : (a b : ℕ) (t : Ty) → Longest (ty toks) a (Some (t, b)) → Longest q b None → Longest (pair (ty toks) q) a None
+  past_ty a b t long none = past_one a b (ty_reads toks a) t long none
 
 pub ends_behind : {toks : List Terminal} {T : Type 0} {p : T → Step} {e : Bool} (of_p : Known toks e p) (a n : ℕ) (t : T) → Longest p a (Some (t, n)) → a ≤ n
 ends_behind {toks} {e = e} of_p a n t long = rises toks of_p.first e a n ((of_p.at a).opens t n long.0)

@@ -15,7 +15,7 @@ use Rattle.ir_parse_parts.proofs.constants.+constants.Goals as goal
 pub array-tconsts-requires : goal.array-tconsts-requires
 array-tconsts-requires t c =
     let m = the_moves c.args.toks.now k.LeftBracket c.args.start c.args.first c.requires.after in
-    let d : 8 * (length c.args.toks.now - c.args.start) + 0 ≡ t = c.decreases in
+    let d : 8 * (length c.args.toks.now - c.args.start) ≡ t = c.decreases in
     (omega (arith, m.0, m.1, d), c.requires.few)
 
 pub array-returns-in_default : goal.array-returns-in_default
@@ -27,7 +27,7 @@ array-returns t c = constants.array_ends c.args.toks.now c.args.start c.args.fir
 pub structure-tconsts-requires : goal.structure-tconsts-requires
 structure-tconsts-requires t c =
     let m = the_moves c.args.toks.now k.LeftBrace c.args.start c.args.first c.requires.after in
-    let d : 8 * (length c.args.toks.now - c.args.start) + 0 ≡ t = c.decreases in
+    let d : 8 * (length c.args.toks.now - c.args.start) ≡ t = c.decreases in
     (omega (arith, m.0, m.1, d), c.requires.few)
 
 pub structure-returns-in_default : goal.structure-returns-in_default
@@ -40,55 +40,97 @@ pub packed-returns-in_default : goal.packed-returns-in_default
 packed-returns-in_default t c = constants.packed_no_brace c.args.toks.now c.args.start c.args.first (sym c.requires.after) c.in_default.ensures.value
 
 pub packed-returns-in_default-the : goal.packed-returns-in_default-the
-packed-returns-in_default-the t c = constants.packed_no_close c.args.toks.now c.args.start c.args.first (sym c.requires.after) c.in-Some.inner c.in-Some.ensures.value c.in_ok-parts.parts c.in_ok-parts.close c.in_ok-parts.ensures c.in_default-the.ensures.value
+packed-returns-in_default-the t c =
+    let toks = c.args.toks.now in
+    constants.packed_no_close toks c.args.start c.args.first (sym c.requires.after) c.in-Some.inner c.in-Some.ensures.value c.in_ok-parts.parts c.in_ok-parts.close c.in_ok-parts.ensures c.in_default-the.ensures.value
 
 pub packed-returns-in_default-the-2 : goal.packed-returns-in_default-the-2
-packed-returns-in_default-the-2 t c = constants.packed_no_greater c.args.toks.now c.args.start c.args.first (sym c.requires.after) c.in-Some.inner c.in-Some.ensures.value c.in_ok-parts.parts c.in_ok-parts.close c.in_ok-parts.ensures c.in-Some-the.greater c.in-Some-the.ensures.value c.in_default-the-2.ensures.value
+packed-returns-in_default-the-2 t c =
+    let toks = c.args.toks.now in
+    constants.packed_no_greater toks c.args.start c.args.first (sym c.requires.after) c.in-Some.inner c.in-Some.ensures.value c.in_ok-parts.parts c.in_ok-parts.close c.in_ok-parts.ensures c.in-Some-the.greater c.in-Some-the.ensures.value c.in_default-the-2.ensures.value
 
 pub packed-returns : goal.packed-returns
-packed-returns t c = constants.packed_ends c.args.toks.now c.args.start c.args.first (sym c.requires.after) c.in-Some.inner c.in-Some.ensures.value c.in_ok-parts.parts c.in_ok-parts.close c.in_ok-parts.ensures c.in-Some-the.greater c.in-Some-the.ensures.value c.in-Some-the-2.next c.in-Some-the-2.ensures.value
+packed-returns t c =
+    let toks = c.args.toks.now in
+    constants.packed_ends toks c.args.start c.args.first (sym c.requires.after) c.in-Some.inner c.in-Some.ensures.value c.in_ok-parts.parts c.in_ok-parts.close c.in_ok-parts.ensures c.in-Some-the.greater c.in-Some-the.ensures.value c.in-Some-the-2.next c.in-Some-the-2.ensures.value
 
 pub getelementptr-returns-in_default : goal.getelementptr-returns-in_default
 getelementptr-returns-in_default t c = constants.gep_no_paren c.args.toks.now c.args.start c.args.first (sym c.requires.after) c.in_ok-flags.flags c.in_ok-flags.paren c.in_ok-flags.ensures c.in_default.ensures.value
 
 pub getelementptr-returns-in_default-2 : goal.getelementptr-returns-in_default-2
-getelementptr-returns-in_default-2 t c = constants.gep_no_elem c.args.toks.now c.args.start c.args.first (sym c.requires.after) c.in_ok-flags.flags c.in_ok-flags.paren c.in_ok-flags.ensures c.in-Some.inner c.in-Some.ensures.value (subst (Longest (ty c.args.toks.now) c.in-Some.inner) c.in_default-2.is c.in_ok-elem.ensures)
+getelementptr-returns-in_default-2 t c =
+    let toks = c.args.toks.now in
+    let elem_read = subst (Longest (ty toks) c.in-Some.inner) c.in_default-2.is c.in_ok-elem.ensures in
+    constants.gep_no_elem toks c.args.start c.args.first (sym c.requires.after) c.in_ok-flags.flags c.in_ok-flags.paren c.in_ok-flags.ensures c.in-Some.inner c.in-Some.ensures.value elem_read
 
 pub getelementptr-operands-requires : goal.getelementptr-operands-requires
 getelementptr-operands-requires t c =
     let op = the_moves c.args.toks.now k.GetElementPtr c.args.start c.args.first c.requires.after in
     let flags = constants.gepflags_end c.args.toks.now c.args.first c.in_ok-flags.paren c.in_ok-flags.flags c.in_ok-flags.ensures in
     let paren = the_moves c.args.toks.now k.LeftParen c.in_ok-flags.paren c.in-Some.inner (sym c.in-Some.ensures.value) in
-    let d : 8 * (length c.args.toks.now - c.args.start) + 0 ≡ t = c.decreases in
+    let d : 8 * (length c.args.toks.now - c.args.start) ≡ t = c.decreases in
     let grows = types.ty_grows c.args.toks.now c.in-Some.inner c.in-Some-2.comma c.in-Some-2.elem (subst (Longest (ty c.args.toks.now) c.in-Some.inner) c.in-Some-2.is c.in_ok-elem.ensures) in
     (omega (arith, op.0, op.1, flags, paren.0, grows, d), c.requires.few)
 
 pub getelementptr-returns-in_default-3 : goal.getelementptr-returns-in_default-3
-getelementptr-returns-in_default-3 t c = constants.gep_no_operands c.args.toks.now c.args.start c.args.first (sym c.requires.after) c.in_ok-flags.flags c.in_ok-flags.paren c.in_ok-flags.ensures c.in-Some.inner c.in-Some.ensures.value c.in-Some-2.elem c.in-Some-2.comma (subst (Longest (ty c.args.toks.now) c.in-Some.inner) c.in-Some-2.is c.in_ok-elem.ensures) (subst (Longest (some (next c.args.toks.now (tconst c.args.toks.now))) c.in-Some-2.comma) c.in_default-3.is c.in_ok-operands.ensures)
+getelementptr-returns-in_default-3 t c =
+    let toks = c.args.toks.now in
+    let elem_read = subst (Longest (ty toks) c.in-Some.inner) c.in-Some-2.is c.in_ok-elem.ensures in
+    let operands_read = subst (Longest (some (next toks (tconst toks))) c.in-Some-2.comma) c.in_default-3.is c.in_ok-operands.ensures in
+    constants.gep_no_operands toks c.args.start c.args.first (sym c.requires.after) c.in_ok-flags.flags c.in_ok-flags.paren c.in_ok-flags.ensures c.in-Some.inner c.in-Some.ensures.value c.in-Some-2.elem c.in-Some-2.comma elem_read operands_read
 
 pub getelementptr-returns-in_default-the : goal.getelementptr-returns-in_default-the
-getelementptr-returns-in_default-the t c = constants.gep_no_close c.args.toks.now c.args.start c.args.first (sym c.requires.after) c.in_ok-flags.flags c.in_ok-flags.paren c.in_ok-flags.ensures c.in-Some.inner c.in-Some.ensures.value c.in-Some-2.elem c.in-Some-2.comma (subst (Longest (ty c.args.toks.now) c.in-Some.inner) c.in-Some-2.is c.in_ok-elem.ensures) c.in-Some-3.operands c.in-Some-3.close (subst (Longest (some (next c.args.toks.now (tconst c.args.toks.now))) c.in-Some-2.comma) c.in-Some-3.is c.in_ok-operands.ensures) c.in_default-the.ensures.value
+getelementptr-returns-in_default-the t c =
+    let toks = c.args.toks.now in
+    let elem_read = subst (Longest (ty toks) c.in-Some.inner) c.in-Some-2.is c.in_ok-elem.ensures in
+    let operands_read = subst (Longest (some (next toks (tconst toks))) c.in-Some-2.comma) c.in-Some-3.is c.in_ok-operands.ensures in
+    constants.gep_no_close toks c.args.start c.args.first (sym c.requires.after) c.in_ok-flags.flags c.in_ok-flags.paren c.in_ok-flags.ensures c.in-Some.inner c.in-Some.ensures.value c.in-Some-2.elem c.in-Some-2.comma elem_read c.in-Some-3.operands c.in-Some-3.close operands_read c.in_default-the.ensures.value
 
 pub getelementptr-returns : goal.getelementptr-returns
-getelementptr-returns t c = constants.gep_ends c.args.toks.now c.args.start c.args.first (sym c.requires.after) c.in_ok-flags.flags c.in_ok-flags.paren c.in_ok-flags.ensures c.in-Some.inner c.in-Some.ensures.value c.in_ok-elem-2.elem c.in-Some-2.comma (subst (λ e. Longest (ty c.args.toks.now) c.in-Some.inner (Some (e, c.in-Some-2.comma))) (sym c.in_ok-elem-2.ensures) (subst (Longest (ty c.args.toks.now) c.in-Some.inner) c.in-Some-2.is c.in_ok-elem.ensures)) c.in-Some-3.operands c.in-Some-3.close (subst (Longest (some (next c.args.toks.now (tconst c.args.toks.now))) c.in-Some-2.comma) c.in-Some-3.is c.in_ok-operands.ensures) c.in-Some-the.next c.in-Some-the.ensures.value
+getelementptr-returns t c =
+    let toks = c.args.toks.now in
+    let elem_read = subst (Longest (ty toks) c.in-Some.inner) c.in-Some-2.is c.in_ok-elem.ensures in
+    let operands_read = subst (Longest (some (next toks (tconst toks))) c.in-Some-2.comma) c.in-Some-3.is c.in_ok-operands.ensures in
+    let elem_boxed = subst (λ e. Longest (ty toks) c.in-Some.inner (Some (e, c.in-Some-2.comma))) (sym c.in_ok-elem-2.ensures) elem_read in
+    constants.gep_ends toks c.args.start c.args.first (sym c.requires.after) c.in_ok-flags.flags c.in_ok-flags.paren c.in_ok-flags.ensures c.in-Some.inner c.in-Some.ensures.value c.in_ok-elem-2.elem c.in-Some-2.comma elem_boxed c.in-Some-3.operands c.in-Some-3.close operands_read c.in-Some-the.next c.in-Some-the.ensures.value
 
 pub cast-returns-in_default : goal.cast-returns-in_default
 cast-returns-in_default t c = constants.cast_no_paren c.args.toks.now c.args.start c.args.first (sym c.requires.after) c.in_default.ensures.value
 
 pub cast-returns-in_default-2 : goal.cast-returns-in_default-2
-cast-returns-in_default-2 t c = constants.cast_no_operand c.args.toks.now c.args.start c.args.first (sym c.requires.after) c.in-Some.inner c.in-Some.ensures.value (subst (Longest (tconst c.args.toks.now) c.in-Some.inner) c.in_default-2.is c.in_ok-of.ensures)
+cast-returns-in_default-2 t c =
+    let toks = c.args.toks.now in
+    let operand_read = subst (Longest (tconst toks) c.in-Some.inner) c.in_default-2.is c.in_ok-of.ensures in
+    constants.cast_no_operand toks c.args.start c.args.first (sym c.requires.after) c.in-Some.inner c.in-Some.ensures.value operand_read
 
 pub cast-returns-in_default-the : goal.cast-returns-in_default-the
-cast-returns-in_default-the t c = constants.cast_no_to c.args.toks.now c.args.start c.args.first (sym c.requires.after) c.in-Some.inner c.in-Some.ensures.value c.in-Some-2.of c.in-Some-2.word (subst (Longest (tconst c.args.toks.now) c.in-Some.inner) c.in-Some-2.is c.in_ok-of.ensures) c.in_default-the.ensures.value
+cast-returns-in_default-the t c =
+    let toks = c.args.toks.now in
+    let operand_read = subst (Longest (tconst toks) c.in-Some.inner) c.in-Some-2.is c.in_ok-of.ensures in
+    constants.cast_no_to toks c.args.start c.args.first (sym c.requires.after) c.in-Some.inner c.in-Some.ensures.value c.in-Some-2.of c.in-Some-2.word operand_read c.in_default-the.ensures.value
 
 pub cast-returns-in_default-3 : goal.cast-returns-in_default-3
-cast-returns-in_default-3 t c = constants.cast_no_target c.args.toks.now c.args.start c.args.first (sym c.requires.after) c.in-Some.inner c.in-Some.ensures.value c.in-Some-2.of c.in-Some-2.word (subst (Longest (tconst c.args.toks.now) c.in-Some.inner) c.in-Some-2.is c.in_ok-of.ensures) c.in-Some-the.target c.in-Some-the.ensures.value (subst (Longest (ty c.args.toks.now) c.in-Some-the.target) c.in_default-3.is c.in_ok-to.ensures)
+cast-returns-in_default-3 t c =
+    let toks = c.args.toks.now in
+    let operand_read = subst (Longest (tconst toks) c.in-Some.inner) c.in-Some-2.is c.in_ok-of.ensures in
+    let target_read = subst (Longest (ty toks) c.in-Some-the.target) c.in_default-3.is c.in_ok-to.ensures in
+    constants.cast_no_target toks c.args.start c.args.first (sym c.requires.after) c.in-Some.inner c.in-Some.ensures.value c.in-Some-2.of c.in-Some-2.word operand_read c.in-Some-the.target c.in-Some-the.ensures.value target_read
 
 pub cast-returns-in_default-the-2 : goal.cast-returns-in_default-the-2
-cast-returns-in_default-the-2 t c = constants.cast_no_close c.args.toks.now c.args.start c.args.first (sym c.requires.after) c.in-Some.inner c.in-Some.ensures.value c.in-Some-2.of c.in-Some-2.word (subst (Longest (tconst c.args.toks.now) c.in-Some.inner) c.in-Some-2.is c.in_ok-of.ensures) c.in-Some-the.target c.in-Some-the.ensures.value c.in-Some-3.to c.in-Some-3.close (subst (Longest (ty c.args.toks.now) c.in-Some-the.target) c.in-Some-3.is c.in_ok-to.ensures) c.in_default-the-2.ensures.value
+cast-returns-in_default-the-2 t c =
+    let toks = c.args.toks.now in
+    let operand_read = subst (Longest (tconst toks) c.in-Some.inner) c.in-Some-2.is c.in_ok-of.ensures in
+    let target_read = subst (Longest (ty toks) c.in-Some-the.target) c.in-Some-3.is c.in_ok-to.ensures in
+    constants.cast_no_close toks c.args.start c.args.first (sym c.requires.after) c.in-Some.inner c.in-Some.ensures.value c.in-Some-2.of c.in-Some-2.word operand_read c.in-Some-the.target c.in-Some-the.ensures.value c.in-Some-3.to c.in-Some-3.close target_read c.in_default-the-2.ensures.value
 
 pub cast-returns : goal.cast-returns
-cast-returns t c = constants.cast_ends c.args.toks.now c.args.start c.args.first (sym c.requires.after) c.in-Some.inner c.in-Some.ensures.value c.in_ok-of-2.of c.in-Some-2.word (subst (λ e. Longest (tconst c.args.toks.now) c.in-Some.inner (Some (e, c.in-Some-2.word))) (sym c.in_ok-of-2.ensures) (subst (Longest (tconst c.args.toks.now) c.in-Some.inner) c.in-Some-2.is c.in_ok-of.ensures)) c.in-Some-the.target c.in-Some-the.ensures.value c.in_ok-to-2.to c.in-Some-3.close (subst (λ e. Longest (ty c.args.toks.now) c.in-Some-the.target (Some (e, c.in-Some-3.close))) (sym c.in_ok-to-2.ensures) (subst (Longest (ty c.args.toks.now) c.in-Some-the.target) c.in-Some-3.is c.in_ok-to.ensures)) c.in-Some-the-2.next c.in-Some-the-2.ensures.value
+cast-returns t c =
+    let toks = c.args.toks.now in
+    let operand_read = subst (Longest (tconst toks) c.in-Some.inner) c.in-Some-2.is c.in_ok-of.ensures in
+    let target_read = subst (Longest (ty toks) c.in-Some-the.target) c.in-Some-3.is c.in_ok-to.ensures in
+    let operand_boxed = subst (λ e. Longest (tconst toks) c.in-Some.inner (Some (e, c.in-Some-2.word))) (sym c.in_ok-of-2.ensures) operand_read in
+    let target_boxed = subst (λ e. Longest (ty toks) c.in-Some-the.target (Some (e, c.in-Some-3.close))) (sym c.in_ok-to-2.ensures) target_read in
+    constants.cast_ends toks c.args.start c.args.first (sym c.requires.after) c.in-Some.inner c.in-Some.ensures.value c.in_ok-of-2.of c.in-Some-2.word operand_boxed c.in-Some-the.target c.in-Some-the.ensures.value c.in_ok-to-2.to c.in-Some-3.close target_boxed c.in-Some-the-2.next c.in-Some-the-2.ensures.value
 
 pub binop-returns-in_default : goal.binop-returns-in_default
 binop-returns-in_default t c = constants.binop_no_paren c.args.toks.now c.args.start c.args.first (sym c.requires.after) c.in_ok-flags.flags c.in_ok-flags.paren c.in_ok-flags.ensures c.in_default.ensures.value
@@ -98,36 +140,58 @@ binop-tconst-requires t c =
     let op = the_moves c.args.toks.now k.ConstBinop c.args.start c.args.first c.requires.after in
     let flags = constants.iflags_end c.args.toks.now c.args.first c.in_ok-flags.paren c.in_ok-flags.flags c.in_ok-flags.ensures in
     let paren = the_moves c.args.toks.now k.LeftParen c.in_ok-flags.paren c.in-Some.inner (sym c.in-Some.ensures.value) in
-    let d : 8 * (length c.args.toks.now - c.args.start) + 0 ≡ t = c.decreases in
+    let d : 8 * (length c.args.toks.now - c.args.start) ≡ t = c.decreases in
     (omega (arith, op.0, op.1, flags, paren.0, d), c.requires.few)
 
 pub binop-returns-in_default-2 : goal.binop-returns-in_default-2
-binop-returns-in_default-2 t c = constants.binop_no_left c.args.toks.now c.args.start c.args.first (sym c.requires.after) c.in_ok-flags.flags c.in_ok-flags.paren c.in_ok-flags.ensures c.in-Some.inner c.in-Some.ensures.value (subst (Longest (tconst c.args.toks.now) c.in-Some.inner) c.in_default-2.is c.in_ok-left.ensures)
+binop-returns-in_default-2 t c =
+    let toks = c.args.toks.now in
+    let left_read = subst (Longest (tconst toks) c.in-Some.inner) c.in_default-2.is c.in_ok-left.ensures in
+    constants.binop_no_left toks c.args.start c.args.first (sym c.requires.after) c.in_ok-flags.flags c.in_ok-flags.paren c.in_ok-flags.ensures c.in-Some.inner c.in-Some.ensures.value left_read
 
 pub binop-returns-in_default-the : goal.binop-returns-in_default-the
-binop-returns-in_default-the t c = constants.binop_no_comma c.args.toks.now c.args.start c.args.first (sym c.requires.after) c.in_ok-flags.flags c.in_ok-flags.paren c.in_ok-flags.ensures c.in-Some.inner c.in-Some.ensures.value c.in-Some-2.left c.in-Some-2.comma (subst (Longest (tconst c.args.toks.now) c.in-Some.inner) c.in-Some-2.is c.in_ok-left.ensures) c.in_default-the.ensures.value
+binop-returns-in_default-the t c =
+    let toks = c.args.toks.now in
+    let left_read = subst (Longest (tconst toks) c.in-Some.inner) c.in-Some-2.is c.in_ok-left.ensures in
+    constants.binop_no_comma toks c.args.start c.args.first (sym c.requires.after) c.in_ok-flags.flags c.in_ok-flags.paren c.in_ok-flags.ensures c.in-Some.inner c.in-Some.ensures.value c.in-Some-2.left c.in-Some-2.comma left_read c.in_default-the.ensures.value
 
 pub binop-tconst-requires-2 : goal.binop-tconst-requires-2
 binop-tconst-requires-2 t c =
     let op = the_moves c.args.toks.now k.ConstBinop c.args.start c.args.first c.requires.after in
     let flags = constants.iflags_end c.args.toks.now c.args.first c.in_ok-flags.paren c.in_ok-flags.flags c.in_ok-flags.ensures in
     let paren = the_moves c.args.toks.now k.LeftParen c.in_ok-flags.paren c.in-Some.inner (sym c.in-Some.ensures.value) in
-    let d : 8 * (length c.args.toks.now - c.args.start) + 0 ≡ t = c.decreases in
+    let d : 8 * (length c.args.toks.now - c.args.start) ≡ t = c.decreases in
     let grows = constants.tconst_grows c.args.toks.now c.in-Some.inner c.in-Some-2.comma c.in-Some-2.left (subst (Longest (tconst c.args.toks.now) c.in-Some.inner) c.in-Some-2.is c.in_ok-left.ensures) in
     let comma = the_moves c.args.toks.now k.Comma c.in-Some-2.comma c.in-Some-the.second (sym c.in-Some-the.ensures.value) in
     (omega (arith, op.0, op.1, flags, paren.0, grows, comma.0, d), c.requires.few)
 
 pub binop-returns-in_default-3 : goal.binop-returns-in_default-3
-binop-returns-in_default-3 t c = constants.binop_no_right c.args.toks.now c.args.start c.args.first (sym c.requires.after) c.in_ok-flags.flags c.in_ok-flags.paren c.in_ok-flags.ensures c.in-Some.inner c.in-Some.ensures.value c.in-Some-2.left c.in-Some-2.comma (subst (Longest (tconst c.args.toks.now) c.in-Some.inner) c.in-Some-2.is c.in_ok-left.ensures) c.in-Some-the.second c.in-Some-the.ensures.value (subst (Longest (tconst c.args.toks.now) c.in-Some-the.second) c.in_default-3.is c.in_ok-right.ensures)
+binop-returns-in_default-3 t c =
+    let toks = c.args.toks.now in
+    let left_read = subst (Longest (tconst toks) c.in-Some.inner) c.in-Some-2.is c.in_ok-left.ensures in
+    let right_read = subst (Longest (tconst toks) c.in-Some-the.second) c.in_default-3.is c.in_ok-right.ensures in
+    constants.binop_no_right toks c.args.start c.args.first (sym c.requires.after) c.in_ok-flags.flags c.in_ok-flags.paren c.in_ok-flags.ensures c.in-Some.inner c.in-Some.ensures.value c.in-Some-2.left c.in-Some-2.comma left_read c.in-Some-the.second c.in-Some-the.ensures.value right_read
 
 pub binop-returns-in_default-the-2 : goal.binop-returns-in_default-the-2
-binop-returns-in_default-the-2 t c = constants.binop_no_close c.args.toks.now c.args.start c.args.first (sym c.requires.after) c.in_ok-flags.flags c.in_ok-flags.paren c.in_ok-flags.ensures c.in-Some.inner c.in-Some.ensures.value c.in-Some-2.left c.in-Some-2.comma (subst (Longest (tconst c.args.toks.now) c.in-Some.inner) c.in-Some-2.is c.in_ok-left.ensures) c.in-Some-the.second c.in-Some-the.ensures.value c.in-Some-3.right c.in-Some-3.close (subst (Longest (tconst c.args.toks.now) c.in-Some-the.second) c.in-Some-3.is c.in_ok-right.ensures) c.in_default-the-2.ensures.value
+binop-returns-in_default-the-2 t c =
+    let toks = c.args.toks.now in
+    let left_read = subst (Longest (tconst toks) c.in-Some.inner) c.in-Some-2.is c.in_ok-left.ensures in
+    let right_read = subst (Longest (tconst toks) c.in-Some-the.second) c.in-Some-3.is c.in_ok-right.ensures in
+    constants.binop_no_close toks c.args.start c.args.first (sym c.requires.after) c.in_ok-flags.flags c.in_ok-flags.paren c.in_ok-flags.ensures c.in-Some.inner c.in-Some.ensures.value c.in-Some-2.left c.in-Some-2.comma left_read c.in-Some-the.second c.in-Some-the.ensures.value c.in-Some-3.right c.in-Some-3.close right_read c.in_default-the-2.ensures.value
 
 pub binop-returns : goal.binop-returns
-binop-returns t c = constants.binop_ends c.args.toks.now c.args.start c.args.first (sym c.requires.after) c.in_ok-flags.flags c.in_ok-flags.paren c.in_ok-flags.ensures c.in-Some.inner c.in-Some.ensures.value c.in_ok-left-2.left c.in-Some-2.comma (subst (λ e. Longest (tconst c.args.toks.now) c.in-Some.inner (Some (e, c.in-Some-2.comma))) (sym c.in_ok-left-2.ensures) (subst (Longest (tconst c.args.toks.now) c.in-Some.inner) c.in-Some-2.is c.in_ok-left.ensures)) c.in-Some-the.second c.in-Some-the.ensures.value c.in_ok-right-2.right c.in-Some-3.close (subst (λ e. Longest (tconst c.args.toks.now) c.in-Some-the.second (Some (e, c.in-Some-3.close))) (sym c.in_ok-right-2.ensures) (subst (Longest (tconst c.args.toks.now) c.in-Some-the.second) c.in-Some-3.is c.in_ok-right.ensures)) c.in-Some-the-2.next c.in-Some-the-2.ensures.value
+binop-returns t c =
+    let toks = c.args.toks.now in
+    let left_read = subst (Longest (tconst toks) c.in-Some.inner) c.in-Some-2.is c.in_ok-left.ensures in
+    let right_read = subst (Longest (tconst toks) c.in-Some-the.second) c.in-Some-3.is c.in_ok-right.ensures in
+    let left_boxed = subst (λ e. Longest (tconst toks) c.in-Some.inner (Some (e, c.in-Some-2.comma))) (sym c.in_ok-left-2.ensures) left_read in
+    let right_boxed = subst (λ e. Longest (tconst toks) c.in-Some-the.second (Some (e, c.in-Some-3.close))) (sym c.in_ok-right-2.ensures) right_read in
+    constants.binop_ends toks c.args.start c.args.first (sym c.requires.after) c.in_ok-flags.flags c.in_ok-flags.paren c.in_ok-flags.ensures c.in-Some.inner c.in-Some.ensures.value c.in_ok-left-2.left c.in-Some-2.comma left_boxed c.in-Some-the.second c.in-Some-the.ensures.value c.in_ok-right-2.right c.in-Some-3.close right_boxed c.in-Some-the-2.next c.in-Some-the-2.ensures.value
 
 pub compound-returns : goal.compound-returns
-compound-returns t c = constants.const_none c.args.toks.now c.args.at c.requires.none c.in_default.ensures.value c.in_default-the.ensures.value c.in_default-the-2.ensures.value c.in_default-the-3.ensures.value c.in_default-the-4.ensures.value c.in_default-the-5.ensures.value
+compound-returns t c =
+    let toks = c.args.toks.now in
+    constants.const_none toks c.args.at c.requires.none c.in_default.ensures.value c.in_default-the.ensures.value c.in_default-the-2.ensures.value c.in_default-the-3.ensures.value c.in_default-the-4.ensures.value c.in_default-the-5.ensures.value
 
 pub tconst-returns-in_default : goal.tconst-returns-in_default
 tconst-returns-in_default t c = constants.tconst_no_ty c.args.toks.now c.args.at (subst (Longest (ty c.args.toks.now) c.args.at) c.in_default.is c.in_ok-ty.ensures)
@@ -139,13 +203,24 @@ tconst-constant-requires t c =
     (omega (arith, grows, d), c.requires.few)
 
 pub tconst-returns-in_default-2 : goal.tconst-returns-in_default-2
-tconst-returns-in_default-2 t c = constants.tconst_no_value c.args.toks.now c.args.at c.in-Some.after c.in-Some.ty (subst (Longest (ty c.args.toks.now) c.args.at) c.in-Some.is c.in_ok-ty.ensures) (subst (Longest (const c.args.toks.now) c.in-Some.after) c.in_default-2.is c.in_ok-value.ensures)
+tconst-returns-in_default-2 t c =
+    let toks = c.args.toks.now in
+    let type_read = subst (Longest (ty toks) c.args.at) c.in-Some.is c.in_ok-ty.ensures in
+    let value_read = subst (Longest (const toks) c.in-Some.after) c.in_default-2.is c.in_ok-value.ensures in
+    constants.tconst_no_value toks c.args.at c.in-Some.after c.in-Some.ty type_read value_read
 
 pub tconst-returns : goal.tconst-returns
-tconst-returns t c = constants.tconst_some c.args.toks.now c.args.at c.in-Some.after c.in-Some-2.next c.in-Some.ty c.in-Some-2.value (subst (Longest (ty c.args.toks.now) c.args.at) c.in-Some.is c.in_ok-ty.ensures) (subst (Longest (const c.args.toks.now) c.in-Some.after) c.in-Some-2.is c.in_ok-value.ensures)
+tconst-returns t c =
+    let toks = c.args.toks.now in
+    let type_read = subst (Longest (ty toks) c.args.at) c.in-Some.is c.in_ok-ty.ensures in
+    let value_read = subst (Longest (const toks) c.in-Some.after) c.in-Some-2.is c.in_ok-value.ensures in
+    constants.tconst_some toks c.args.at c.in-Some.after c.in-Some-2.next c.in-Some.ty c.in-Some-2.value type_read value_read
 
 pub tconsts-returns-in_default : goal.tconsts-returns-in_default
-tconsts-returns-in_default t c = subst (λ z. Longest (separated c.args.toks.now (tconst c.args.toks.now)) c.args.at (Some (z, c.args.at))) (sym c.new-found.ensures) (separated_none c.args.toks.now (tconst c.args.toks.now) c.args.at (subst (Longest (tconst c.args.toks.now) c.args.at) c.in_default.is c.in_ok-first.ensures))
+tconsts-returns-in_default t c =
+    let toks = c.args.toks.now in
+    let first_read = subst (Longest (tconst toks) c.args.at) c.in_default.is c.in_ok-first.ensures in
+    subst (λ z. Longest (separated toks (tconst toks)) c.args.at (Some (z, c.args.at))) (sym c.new-found.ensures) (separated_none toks (tconst toks) c.args.at first_read)
 
 pub tconsts-more_tconsts-requires : goal.tconsts-more_tconsts-requires
 tconsts-more_tconsts-requires t c =
@@ -198,4 +273,6 @@ more_tconsts-returns t c =
     (i.0, (i.1.0, reached_all (next c.args.toks.now (tconst c.args.toks.now)) c.args.at c.loop-found.place i.0 i.1.1 (subst (Longest (next c.args.toks.now (tconst c.args.toks.now)) c.loop-found.place) c.in_default.is c.in_ok-part.ensures)))
 
 pub next_tconst-returns : goal.next_tconst-returns
-next_tconst-returns t c = IfOk-weaker c.tconst.result (Longest (tconst c.args.toks.now) c.in-Some.first) (Longest (next c.args.toks.now (tconst c.args.toks.now)) c.args.at) (λ r l. next_longest c.args.toks.now (tconst c.args.toks.now) c.args.at c.in-Some.first r c.in-Some.ensures.value l) c.tconst.ensures
+next_tconst-returns t c =
+    let toks = c.args.toks.now in
+    IfOk-weaker c.tconst.result (Longest (tconst toks) c.in-Some.first) (Longest (next toks (tconst toks)) c.args.at) (λ r l. next_longest toks (tconst toks) c.args.at c.in-Some.first r c.in-Some.ensures.value l) c.tconst.ensures
