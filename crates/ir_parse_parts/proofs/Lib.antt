@@ -2,3 +2,4 @@ pub mod Longest
 pub mod LongestTypes
 pub mod LongestConstants
 pub mod LongestFlags
+pub mod LongestAttributes
