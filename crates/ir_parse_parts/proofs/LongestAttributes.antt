@@ -22,10 +22,9 @@ use Rattle.ir_tree.specs.Attributes.{awords, aword, inner_layer, inner, fattr, r
 use Rattle.ir_tree.proofs.Looks.{apart}
 use Rattle.ir_tree.proofs.Clear.{pair, choice, split, then_some, many_map}
 use Rattle.ir_tree.proofs.Known.{Known, firsts, leaf_of, set_of, the_of, pair_of, choice_of, optional_of, many_of, next_of}
-use Rattle.ir_tree.proofs.ClearAttributes.{inner_back, inner_shape, inner_view, bracket, inner_reads, inner_of, Bracketed, FattrShape, fattr_back, fattr_shape, fattr_view, fattr_first, fattr_reads, fattr_of, valued_of, bracketed_of, RattrShape, rattr_back, rattr_shape, rattr_view, GattrShape, gattr_back, gattr_shape, gattr_view, equals, equals_of, attach_of}
-use Rattle.ir_tree.proofs.ClearAttributes.{bracketed as bracketed_shape}
-use Rattle.ir_parse_parts.specs.Parts.{any_of, none_of_these, bracketed, written_value, bytes_in, align_equals, word_equals}
-use Rattle.ir_parse_parts.proofs.Longest.{turned, taken, sees_at, sees_nothing, here, passing_itself, passing_some, passing_none, leaf_is_the, leaf_some, leaf_none, the_some, the_none, choice_left, choice_right, choice_none, optional_some, optional_none, pair_some, pair_none, pair_stop, shape_some, shape_none, not_begun, longest_by, none_by}
+use Rattle.ir_tree.proofs.ClearAttributes.{inner_back, inner_shape, inner_view, bracket, inner_reads, inner_of, Bracketed, FattrShape, fattr_back, fattr_shape, fattr_view, fattr_first, fattr_reads, fattr_of, valued_of, bracketed, bracketed_of, RattrShape, rattr_back, rattr_shape, rattr_view, GattrShape, gattr_back, gattr_shape, gattr_view, equals, equals_of, attach_of}
+use Rattle.ir_parse_parts.specs.Parts.{any_of, none_of_these, written_value, bytes_in, align_equals, word_equals}
+use Rattle.ir_parse_parts.proofs.Longest.{taken, sees_at, sees_nothing, here, passing_itself, passing_some, passing_none, leaf_is_the, leaf_some, leaf_none, the_some, the_none, choice_left, choice_right, choice_none, optional_some, optional_none, pair_some, pair_none, pair_stop, shape_some, shape_none, not_begun, longest_by, none_by}
 
 -- ---- words that are not reserved
 or_in_turn : (v w x y z : Bool) → (v || (w || (x || (y || (z || false))))) ≡ (((((v || false) || (w || false)) || (x || false)) || (y || false)) || (z || false))
@@ -94,23 +93,15 @@ module _ (toks : List Terminal) where
     abbrev close_part : Known toks false (pair (many (inner toks)) (leaf toks k.RightParen))
     close_part = pair_of (many_of (inner_of toks) refl) (leaf_of k.RightParen) refl
 
-    as_shape : (r : Option (Bracketed × ℕ)) → Longest (bracketed_shape toks) a r → Longest (bracketed toks) a (turned (λ (x : Bracketed). x.1) r)
-    as_shape (Some x) l = (l.0, λ u c e. l.1 (tt, u) c e)
-    as_shape None l = λ u c e. l (tt, u) c e
-
-    from_shape : (r : Option ((List Inner × ℕ) × ℕ)) → Longest (bracketed toks) a r → Longest (bracketed_shape toks) a (turned (λ (x : List Inner × ℕ). (tt, x)) r)
-    from_shape (Some x) l = (l.0, λ u c e. l.1 u.1 c e)
-    from_shape None l = λ u c e. l u.1 c e
-
     pub bracketed_none : None ≡ the toks k.LeftParen a → Longest (bracketed toks) a None
-    bracketed_none h = as_shape None (pair_stop (the_of k.LeftParen) close_part a (the_none toks k.LeftParen a h))
+    bracketed_none h = pair_stop (the_of k.LeftParen) close_part a (the_none toks k.LeftParen a h)
 
     module _ (first : ℕ) (h : Some first ≡ the toks k.LeftParen a) (inside : List Inner) (close : ℕ) (l : Longest (many (inner toks)) first (Some (inside, close))) where
       pub bracketed_no_close : None ≡ the toks k.RightParen close → Longest (bracketed toks) a None
-      bracketed_no_close n = as_shape None (pair_none (the_of k.LeftParen) close_part refl a first tt (the_some toks k.LeftParen a first h) (pair_none (many_of (inner_of toks) refl) (leaf_of k.RightParen) refl first close inside l (leaf_none toks k.RightParen close n)))
+      bracketed_no_close n = pair_none (the_of k.LeftParen) close_part refl a first tt (the_some toks k.LeftParen a first h) (pair_none (many_of (inner_of toks) refl) (leaf_of k.RightParen) refl first close inside l (leaf_none toks k.RightParen close n))
 
-      pub bracketed_ends : (end : ℕ) → Some end ≡ the toks k.RightParen close → Longest (bracketed toks) a (Some ((inside, close), end))
-      bracketed_ends end e = as_shape (Some ((tt, (inside, close)), end)) (pair_some (the_of k.LeftParen) close_part refl a first end tt (inside, close) (the_some toks k.LeftParen a first h) (pair_some (many_of (inner_of toks) refl) (leaf_of k.RightParen) refl first close end inside close l (leaf_some toks k.RightParen close end e)))
+      pub bracketed_ends : (end : ℕ) → Some end ≡ the toks k.RightParen close → Longest (bracketed toks) a (Some ((tt, (inside, close)), end))
+      bracketed_ends end e = pair_some (the_of k.LeftParen) close_part refl a first end tt (inside, close) (the_some toks k.LeftParen a first h) (pair_some (many_of (inner_of toks) refl) (leaf_of k.RightParen) refl first close end inside close l (leaf_some toks k.RightParen close end e))
 
   -- ---- attributes of functions
   fattr_unview : (x : FattrShape) (a b : ℕ) → fattr_shape toks x a ≡ Some b → fattr toks (fattr_back x) a ≡ Some b
@@ -118,7 +109,7 @@ module _ (toks : List Terminal) where
   fattr_unview (inl (at, Some x)) a b e = e
   fattr_unview (inr x) a b e = e
 
-  abbrev word_part : Known toks false (pair (aword toks) (optional (bracketed_shape toks)))
+  abbrev word_part : Known toks false (pair (aword toks) (optional (bracketed toks)))
   word_part = pair_of (set_of awords) (optional_of (bracketed_of toks)) refl
 
   abbrev str_part : Known toks false (pair (leaf toks k.Str) (optional (written_value toks)))
@@ -126,21 +117,21 @@ module _ (toks : List Terminal) where
 
   -- an attribute that is a word, by what is behind the word
   module _ (word behind : ℕ) (h : Some behind ≡ any_of toks awords word) where
-    fattr_by_word : (x : Option Bracketed) (n : ℕ) → Longest (optional (bracketed_shape toks)) behind (Some (x, n)) → Longest (fattr toks) word (Some (fattr_back (inl (word, x)), n))
+    fattr_by_word : (x : Option Bracketed) (n : ℕ) → Longest (optional (bracketed toks)) behind (Some (x, n)) → Longest (fattr toks) word (Some (fattr_back (inl (word, x)), n))
     fattr_by_word x n l = shape_some (fattr toks) fattr_back (fattr_view toks) fattr_unview {x = inl (word, x)} (choice_left word_part str_part refl word n (word, x) (pair_some (set_of awords) (optional_of (bracketed_of toks)) refl word behind n word x (passing_some toks (among awords) word behind h) l))
 
-    pub fattr_bracket : (inside : List Inner) (close n : ℕ) → Longest (bracketed toks) behind (Some ((inside, close), n)) → Longest (fattr toks) word (Some (fattr_is.Bracket word inside close, n))
-    fattr_bracket inside close n l = fattr_by_word (Some (tt, (inside, close))) n (optional_some (bracketed_of toks) behind n (tt, (inside, close)) (from_shape behind (Some ((inside, close), n)) l))
-
     pub fattr_word : Longest (bracketed toks) behind None → Longest (fattr toks) word (Some (fattr_is.Word word, behind))
-    fattr_word l = fattr_by_word None behind (optional_none (bracketed_shape toks) behind (from_shape behind None l))
+    fattr_word l = fattr_by_word None behind (optional_none (bracketed toks) behind l)
+
+    pub fattr_bracket : (inside : List Inner) (close n : ℕ) → Longest (bracketed toks) behind (Some ((tt, (inside, close)), n)) → Longest (fattr toks) word (Some (fattr_is.Bracket word inside close, n))
+    fattr_bracket inside close n l = fattr_by_word (Some (tt, (inside, close))) n (optional_some (bracketed_of toks) behind n (tt, (inside, close)) l)
 
   module _ (a : ℕ) where
     pub fattr_str : (behind n : ℕ) (value : Option ℕ) → Some behind ≡ the toks k.Str a → Longest (optional (written_value toks)) behind (Some (value, n)) → Longest (fattr toks) a (Some (fattr_is.Str a value, n))
     fattr_str behind n value h l = shape_some (fattr toks) fattr_back (fattr_view toks) fattr_unview {x = inr (a, value)} (choice_right word_part str_part refl a n (a, value) (pair_some (leaf_of k.Str) (optional_of (valued_of toks)) refl a behind n a value (leaf_some toks k.Str a behind h) l))
 
     pub fattr_none : None ≡ any_of toks awords a → None ≡ the toks k.Str a → Longest (fattr toks) a None
-    fattr_none h h' = shape_none (fattr toks) fattr_back (fattr_view toks) fattr_unview (choice_none (pair (aword toks) (optional (bracketed_shape toks))) (pair (leaf toks k.Str) (optional (written_value toks))) a (pair_stop (set_of awords) (optional_of (bracketed_of toks)) a (passing_none toks (among awords) a h)) (pair_stop (leaf_of k.Str) (optional_of (valued_of toks)) a (leaf_none toks k.Str a h')))
+    fattr_none h h' = shape_none (fattr toks) fattr_back (fattr_view toks) fattr_unview (choice_none (pair (aword toks) (optional (bracketed toks))) (pair (leaf toks k.Str) (optional (written_value toks))) a (pair_stop (set_of awords) (optional_of (bracketed_of toks)) a (passing_none toks (among awords) a h)) (pair_stop (leaf_of k.Str) (optional_of (valued_of toks)) a (leaf_none toks k.Str a h')))
 
   -- no attribute of functions begins with this token
   no_fattr : (t : Terminal) (a b : ℕ) → apart (fattr_first toks) (firsts (t ∷ [])) ≡ true → Some b ≡ the toks t a → Longest (fattr toks) a None
@@ -212,13 +203,13 @@ module _ (toks : List Terminal) where
   abbrev number_part : Known toks false (pair (leaf toks k.Align) (equals toks))
   number_part = pair_of (leaf_of k.Align) (equals_of toks) refl
 
-  abbrev more_part : Known toks false (choice (equals toks) (bracketed_shape toks))
+  abbrev more_part : Known toks false (choice (equals toks) (bracketed toks))
   more_part = choice_of (equals_of toks) (bracketed_of toks) refl
 
-  abbrev worded_part : Known toks false (pair (aword toks) (optional (choice (equals toks) (bracketed_shape toks))))
+  abbrev worded_part : Known toks false (pair (aword toks) (optional (choice (equals toks) (bracketed toks))))
   worded_part = pair_of (set_of awords) (optional_of more_part) refl
 
-  abbrev others_part : Known toks false (choice (pair (aword toks) (optional (choice (equals toks) (bracketed_shape toks)))) (pair (leaf toks k.Str) (optional (written_value toks))))
+  abbrev others_part : Known toks false (choice (pair (aword toks) (optional (choice (equals toks) (bracketed toks)))) (pair (leaf toks k.Str) (optional (written_value toks))))
   others_part = choice_of worded_part str_part refl
 
   module _ (a word value n : ℕ) where

@@ -2,9 +2,8 @@
 use Rattle.std.specs.Prelude.{◌≡◌, ℕ, suc, not, List, None}
 use Rattle.ir_tree.specs.declared.terminal.Terminal.{Terminal}
 use Rattle.ir_tree.specs.declared.terminal.Terminal.TheVariants as k
-use Rattle.ir_tree.specs.declared.attributes.Inner.{Inner}
-use Rattle.ir_tree.specs.Steps.{Step, ◌⨾◌, among, sees, when, the, leaf, many}
-use Rattle.ir_tree.specs.Attributes.{inner, aword}
+use Rattle.ir_tree.specs.Steps.{Step, ◌⨾◌, among, sees, when, the, leaf}
+use Rattle.ir_tree.specs.Attributes.{aword}
 
 -- `'(' Comdat ')'`
 abbrev pub comdat_name : List Terminal → ℕ → Step
@@ -17,10 +16,6 @@ any_of toks set a = when (sees toks (among set) a) (suc a)
 -- a token that is none of these terminals
 abbrev pub none_of_these : List Terminal → List Terminal → Step
 none_of_these toks set a = when (sees toks (λ t. not (among set t)) a) (suc a)
-
--- `'(' inner* ')'`, with what stands inside and the place of the closing parenthesis
-abbrev pub bracketed : List Terminal → List Inner × ℕ → Step
-bracketed toks x = the toks k.LeftParen ⨾ many (inner toks) x.0 ⨾ leaf toks k.RightParen x.1
 
 -- `'=' Str`, the value of an attribute that is written as a string
 abbrev pub written_value : List Terminal → ℕ → Step

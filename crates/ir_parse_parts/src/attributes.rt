@@ -134,26 +134,7 @@ fn aword(toks: &[Terminal], at: u32) -> Option<u32>
     }
 }
 
-/// `'(' inner* ')'`: what stands inside, and the place of the closing parenthesis.
-fn bracketed(
-    alloc: Global,
-    toks: &[Terminal],
-    at: u32,
-) -> Result<Option<((Items<Inner>, u32), u32)>, NoMemory>
-    requires few { length toks.now < 2 ^ 32 }
-    ensures { IfOk result (λ r. Longest (spec.bracketed toks.now) at r) }
-{
-    let Some(first) = the(toks, Terminal::LeftParen, at) else {
-        return Ok(None);
-    };
-    let (inside, close) = inners(alloc, toks, first)?;
-    match the(toks, Terminal::RightParen, close) {
-        Some(next) => Ok(Some(((inside, close), next))),
-        None => Ok(None),
-    }
-}
-
-/// `aword ['(' inner* ')']`, from behind the word on.
+/// `aword ['(' inner* ')']`, from behind the word on. Where no parentheses close, the word stands alone.
 fn word_attribute(
     alloc: Global,
     toks: &[Terminal],
@@ -164,8 +145,12 @@ fn word_attribute(
     requires after { spec.any_of toks.now production.awords word ≡ Some behind }
     ensures { IfOk result (λ r. Longest (production.fattr toks.now) word (Some r)) }
 {
-    match bracketed(alloc, toks, behind)? {
-        Some(((inside, close), next)) => Ok((
+    let Some(first) = the(toks, Terminal::LeftParen, behind) else {
+        return Ok((Fattr::Word(word), behind));
+    };
+    let (inside, close) = inners(alloc, toks, first)?;
+    match the(toks, Terminal::RightParen, close) {
+        Some(next) => Ok((
             Fattr::Bracket {
                 word,
                 inside,
