@@ -209,7 +209,13 @@ fn alignment(toks: &[Terminal], word: u32, behind: u32) -> Option<(Rattr, u32)>
     ensures { Longest (production.rattr toks.now) word result }
 {
     if let Some(next) = the(toks, Terminal::Int, behind) {
-        return Some((Rattr::Align { word, bytes: behind }, next));
+        return Some((
+            Rattr::Align {
+                word,
+                bytes: behind,
+            },
+            next,
+        ));
     }
     match bytes_in(toks, behind) {
         Some(((bytes, close), next)) => Some((Rattr::AlignIn { word, bytes, close }, next)),

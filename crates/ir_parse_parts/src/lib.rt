@@ -17,3 +17,6 @@ pub use flags::{gepflags, iflags};
 pub use step::{either, leaves, optional, stands, the};
 pub use types::{ftype, ty};
 pub use values::{tvalue, value};
+
+#[cfg(test)]
+mod tests_attributes;
