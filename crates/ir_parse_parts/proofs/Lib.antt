@@ -4,3 +4,4 @@ pub mod LongestTypes
 pub mod LongestConstants
 pub mod LongestFlags
 pub mod LongestValues
+pub mod LongestAttributes

@@ -1,13 +1,14 @@
 -- The longest tree of a production from the longest of its parts.
-use Rattle.std.proofs.Common.{◌≡◌, ℕ, suc, ◌<◌, ◌≤◌, Bool, true, false, ◌&&◌, ◌||◌, List, [], ◌∷◌, ◌++◌, Option, None, Some, ◌⊎◌, inl, inr, ⊎_elim, refl, sym, ap, ◌∙◌, subst, eqb, eq-eqb, arith}
+use Rattle.std.proofs.Common.{◌≡◌, ℕ, suc, ◌<◌, ◌≤◌, Bool, true, false, ◌&&◌, ◌||◌, List, [], ◌∷◌, ◌++◌, length, map, Option, None, Some, ◌⊎◌, inl, inr, ⊎_elim, refl, sym, ap, ◌∙◌, subst, eqb, eq-eqb, arith}
+use Rattle.std.specs.List.{list_all}
 use Rattle.ir_tree.specs.declared.terminal.Terminal.{Terminal}
 use Rattle.ir_tree.specs.declared.terminal.Terminal.TheVariants.{Comma}
 use Rattle.std.specs.Prelude.{slice_get}
-use Rattle.ir_tree.specs.Steps.{Step, and_then, is, among, seen, sees, stands, when, the, leaf, many, some, next, listed, separated, Longest}
-use Rattle.ir_tree.proofs.Looks.{both}
-use Rattle.ir_tree.proofs.Looks.{Look, apart, At, at_clash}
+use Rattle.ir_tree.specs.Steps.{Step, and_then, is, among, seen, sees, stands, when, the, passing, leaf, many, some, optional, next, listed, separated, Longest}
+use Rattle.ir_tree.proofs.Looks.{passes, Look, apart, both, falls, Begins, At, at_clash, seen_within}
+use Rattle.ir_tree.proofs.Looks.Test.{In}
 use Rattle.ir_tree.proofs.Clear.{Reads, pair, choice, then_then, split, some_same, moves, rises, when_true}
-use Rattle.ir_tree.proofs.Known.{Known, many_of}
+use Rattle.ir_tree.proofs.Known.{Known, firsts, many_of, next_of}
 
 pub nothing : (c : ℕ) → None ≡ Some c → ⊥
 nothing c e = cc
@@ -79,6 +80,15 @@ pub stands_not : (toks : List Terminal) (t : Terminal) (a : ℕ) → slice_get t
 unfolding sees
 stands_not toks t a h = ap (λ o. seen (among (t ∷ [])) o) h
 
+-- what a test says of the token at a place
+pub sees_at : (toks : List Terminal) (test : Terminal → Bool) (f : Terminal) (a : ℕ) → slice_get toks a ≡ Some f → sees toks test a ≡ test f
+unfolding sees
+sees_at toks test f a h = ap (λ o. seen test o) h
+
+pub sees_nothing : (toks : List Terminal) (test : Terminal → Bool) (a : ℕ) → slice_get toks a ≡ None → sees toks test a ≡ false
+unfolding sees
+sees_nothing toks test a h = ap (λ o. seen test o) h
+
 -- two terminals, one after the other
 pub sees_either : (toks : List Terminal) (j k : Terminal) (a : ℕ) → sees toks (among (j ∷ k ∷ [])) a ≡ (stands toks j a || stands toks k a)
 unfolding sees
@@ -95,7 +105,27 @@ sees_either toks j k a = go (slice_get toks a)
 place_itself : (a : ℕ) → eqb a a ≡ true
 place_itself a = eq-eqb a a refl
 
+-- a leaf that passes a test
+module _ (toks : List Terminal) (test : Terminal → Bool) (a : ℕ) where
+  pub passing_itself : passing toks test a a ≡ when (sees toks test a) (suc a)
+  passing_itself = ap (λ x. when (x && sees toks test a) (suc a)) (place_itself a)
+
+  passing_behind : (u c : ℕ) → passing toks test u a ≡ Some c → when (sees toks test a) (suc a) ≡ Some c
+  passing_behind u c e =
+      let f = when_true (eqb u a && sees toks test a) (suc a) c e in
+      ap (λ x. when x (suc a)) (both (eqb u a) (sees toks test a) f.0).1 ∙ ap Some (sym f.1)
+
+  pub passing_some : (b : ℕ) → Some b ≡ when (sees toks test a) (suc a) → Longest (passing toks test) a (Some (a, b))
+  passing_some b h = (passing_itself ∙ sym h, λ u c e. let same : b ≡ c = some_same b c (h ∙ passing_behind u c e) in omega (arith, same))
+
+  pub passing_none : None ≡ when (sees toks test a) (suc a) → Longest (passing toks test) a None
+  passing_none h = λ u c e. nothing c (h ∙ passing_behind u c e)
+
 module _ (toks : List Terminal) (t : Terminal) (a : ℕ) where
+  -- the token at the place is what begins there
+  pub here : (b : ℕ) → Some b ≡ the toks t a → At toks (firsts (t ∷ [])) a
+  here b h = inl ((when_true (stands toks t a) (suc a) b (sym h)).0, tt)
+
   pub leaf_is_the : leaf toks t a a ≡ the toks t a
   leaf_is_the = ap (λ x. when (x && stands toks t a) (suc a)) (place_itself a)
 
@@ -125,9 +155,67 @@ module _ {T U : Type 0} (p : T → Step) (q : U → Step) (a : ℕ) where
       go (inl t) c e = lp t c e
       go (inr u) c e = lq u c e
 
+module _ {toks : List Terminal} {T U : Type 0} {p : T → Step} {q : U → Step} (of_p : Known toks false p) (of_q : Known toks false q) (told : apart of_p.first of_q.first ≡ true) (a n : ℕ) where
+  pub not_both : (t : T) (u : U) (b c : ℕ) → p t a ≡ Some b → q u a ≡ Some c → ⊥
+  not_both t u b c et eu = at_clash toks of_p.first of_q.first a told (moves toks of_p.first a b ((of_p.at a).opens t b et)).1 (moves toks of_q.first a c ((of_q.at a).opens u c eu)).1
+
+  pub choice_left : (t : T) → Longest p a (Some (t, n)) → Longest (choice p q) a (Some (inl t, n))
+  choice_left t l = (l.0, go)
+    where
+      go : (x : T ⊎ U) (c : ℕ) → choice p q x a ≡ Some c → c ≤ n
+      go (inl u) c e = l.1 u c e
+      go (inr u) c e = absurd (not_both t u n c l.0 e)
+
+  pub choice_right : (u : U) → Longest q a (Some (u, n)) → Longest (choice p q) a (Some (inr u, n))
+  choice_right u l = (l.0, go)
+    where
+      go : (x : T ⊎ U) (c : ℕ) → choice p q x a ≡ Some c → c ≤ n
+      go (inl t) c e = absurd (not_both t u c n e l.0)
+      go (inr t) c e = l.1 t c e
+
+-- ---- one or none
+pub optional_some : {toks : List Terminal} {T : Type 0} {p : T → Step} (of_p : Known toks false p) (a n : ℕ) (t : T) → Longest p a (Some (t, n)) → Longest (optional p) a (Some (Some t, n))
+optional_some {toks} {T} {p} of_p a n t l = (l.0, go)
+  where
+    up : a < n
+    up = (moves toks of_p.first a n ((of_p.at a).opens t n l.0)).0
+
+    go : (x : Option T) (c : ℕ) → optional p x a ≡ Some c → c ≤ n
+    go None c e = let same : a ≡ c = some_same a c e in omega (arith, same, up)
+    go (Some u) c e = l.1 u c e
+
+pub optional_none : {T : Type 0} (p : T → Step) (a : ℕ) → Longest p a None → Longest (optional p) a (Some (None, a))
+optional_none {T} p a l = (refl, go)
+  where
+    go : (x : Option T) (c : ℕ) → optional p x a ≡ Some c → c ≤ a
+    go None c e = let same : a ≡ c = some_same a c e in omega (arith, same)
+    go (Some u) c e = absurd (l u c e)
+
 -- no tree of a production is where none of its first tokens is
 pub not_begun : {toks : List Terminal} {T : Type 0} {p : T → Step} {first more : List Look} {a : ℕ} → Reads toks p first more false a → (looks : List Look) → apart first looks ≡ true → At toks looks a → Longest p a None
 not_begun {toks} {first = first} {a = a} r looks told h = λ t c e. at_clash toks first looks a told (moves toks first a c (r.opens t c e)).1 h
+
+-- the look asks for a token
+abbrev pub asks : Look → Bool
+asks [] = false
+asks (x ∷ look) = true
+
+asked_within : (toks : List Terminal) (look : Look) (a : ℕ) → asks look ≡ true → Begins toks look a → a < length toks
+asked_within toks [] a e h = absurd (falls e)
+asked_within toks (x ∷ look) a e h = seen_within toks (passes x) a h.0
+
+begun_within : (toks : List Terminal) (looks : List Look) (a : ℕ) → list_all asks looks ≡ true → At toks looks a → a < length toks
+begun_within toks [] a all h = absurd h
+begun_within toks (look ∷ looks) a all h =
+    let parts = both (asks look) (list_all asks looks) all in
+    ⊎_elim (λ first. asked_within toks look a parts.0 first) (λ later. begun_within toks looks a parts.1 later) h
+
+-- a tree that is not empty ends behind its place, within the tokens
+pub ends : {toks : List Terminal} {T : Type 0} {p : T → Step} (of_p : Known toks false p) → list_all asks of_p.first ≡ true → (a n : ℕ) (t : T) → Longest p a (Some (t, n)) → (a < n) × (n ≤ length toks)
+ends {toks} of_p all a n t l =
+    let m = moves toks of_p.first a n ((of_p.at a).opens t n l.0) in
+    let inside : a < length toks = begun_within toks of_p.first a all m.1 in
+    (m.0, (of_p.at a).within t n l.0 (omega (arith, inside)))
 
 -- where a longer tree cannot go on, a tree that fits is the longest
 pub longest_by : {toks : List Terminal} {T : Type 0} {p : T → Step} {first more : List Look} {empty : Bool} {a : ℕ} → Reads toks p first more empty a → (t : T) (n : ℕ) → p t a ≡ Some n → (At toks more n → ⊥) → Longest p a (Some (t, n))
@@ -235,3 +323,22 @@ some_none {T} p a l = go
     go : (us : List T) (c : ℕ) → some p us a ≡ Some c → ⊥
     go [] c e = cc
     go (u ∷ us) c e = let s = split (p u a) (many p us) c e in l u s.0 s.1.0
+
+-- one or more with commas
+module _ {toks : List Terminal} {T : Type 0} {p : T → Step} (of_p : Known toks false p) (told : apart of_p.more (map (λ l. In (Comma ∷ []) ∷ l) of_p.first) ≡ true) where
+  pub listed_some : (a m b : ℕ) (t : T) (ts : List T) → Longest p a (Some (t, m)) → Longest (many (next toks p)) m (Some (ts, b)) → Longest (listed toks p) a (Some (t ∷ ts, b))
+  listed_some a m b t ts l rest = (both'.0, go)
+    where
+      both' : Longest (pair p (many (next toks p))) a (Some ((t, ts), b))
+      both' = pair_some of_p (many_of (next_of of_p) told) told a m b t ts l rest
+
+      go : (us : List T) (c : ℕ) → listed toks p us a ≡ Some c → c ≤ b
+      go [] c e = cc
+      go (u ∷ us) c e = both'.1 (u, us) c e
+
+pub listed_none : {T : Type 0} (toks : List Terminal) (p : T → Step) (a : ℕ) → Longest p a None → Longest (listed toks p) a None
+listed_none {T} toks p a l = go
+  where
+    go : (us : List T) (c : ℕ) → listed toks p us a ≡ Some c → ⊥
+    go [] c e = cc
+    go (u ∷ us) c e = let s = split (p u a) (many (next toks p) us) c e in l u s.0 s.1.0

@@ -1,5 +1,5 @@
 -- The longest type, by its first token.
-use Rattle.std.proofs.Common.{◌≡◌, ℕ, suc, ◌<◌, ◌≤◌, false, List, [], ◌∷◌, length, None, Some, inl, inr, refl, sym, ap, ◌∙◌, arith}
+use Rattle.std.proofs.Common.{◌≡◌, ℕ, suc, ◌<◌, ◌≤◌, true, false, List, [], ◌∷◌, length, Option, None, Some, ◌⊎◌, inl, inr, refl, sym, ap, ◌∙◌, arith}
 use Rattle.ir_tree.specs.declared.terminal.Terminal.{Terminal}
 use Rattle.ir_tree.specs.declared.terminal.Terminal.TheVariants as k
 use Rattle.ir_tree.specs.declared.types.Ty.{Ty}
@@ -8,14 +8,17 @@ use Rattle.ir_tree.specs.declared.types.Ty.TheOpen.{Ty-F}
 use Rattle.ir_tree.specs.declared.types.Ty.TheOpen.Ty-F.{Void, Int, Ptr, Array, Struct, Packed, Named}
 use Rattle.ir_tree.specs.declared.types.Ty.TheViews.{roll-Ty}
 use Rattle.ir_tree.specs.declared.types.Ty.TheFolds.{fold-roll-Ty, map-Ty}
-use Rattle.ir_tree.specs.Steps.{Step, ◌⨾◌, among, stands, the, leaf, many, next, separated, Longest}
-use Rattle.ir_tree.specs.Types.{type_layer, ty}
+use Rattle.ir_tree.specs.declared.types.Ftype.{Ftype}
+use Rattle.ir_tree.specs.declared.types.Ftype.TheVariants as ftype_is
+use Rattle.ir_tree.specs.Steps.{Step, ◌⨾◌, among, stands, the, leaf, many, optional, next, listed, separated, Longest}
+use Rattle.ir_tree.specs.Types.{type_layer, ty, ftype}
+use Rattle.ir_tree.specs.Types.{types as function_types}
 use Rattle.ir_tree.proofs.Looks.{At, seen_within}
 use Rattle.ir_tree.proofs.Looks.Test.{In}
-use Rattle.ir_tree.proofs.Clear.{pair, token_reads, separated_map, when_true, moves, split}
-use Rattle.ir_tree.proofs.Known.{Known, firsts, leaf_of, the_of, pair_of, separated_of, next_of, many_of}
-use Rattle.ir_tree.proofs.ClearTypes.{ty_first, ty_reads, ty_of, Shape, back, shape, view, array, struct, packed}
-use Rattle.ir_parse_parts.proofs.Longest.{taken, leaf_is_the, leaf_some, leaf_none, the_some, the_none, pair_none, pair_stop, not_begun, longest_by, none_by, pair_some, separated_some}
+use Rattle.ir_tree.proofs.Clear.{pair, choice, token_reads, separated_map, when_true, moves, split}
+use Rattle.ir_tree.proofs.Known.{Known, firsts, leaf_of, the_of, pair_of, choice_of, optional_of, listed_of, separated_of, next_of, many_of}
+use Rattle.ir_tree.proofs.ClearTypes.{ty_first, ty_reads, ty_of, Shape, back, shape, view, array, struct, packed, types_back, types_view, types_of}
+use Rattle.ir_parse_parts.proofs.Longest.{taken, leaf_is_the, leaf_some, leaf_none, the_some, the_none, pair_none, pair_stop, not_begun, longest_by, none_by, pair_some, separated_some, choice_left, choice_right, choice_none, optional_some, optional_none, shape_some, listed_some, listed_none}
 
 module _ (toks : List Terminal) where
   layer : (x : Ty-F Ty) (a : ℕ) → ty toks (roll-Ty x) a ≡ type_layer toks (map-Ty Ty Step (ty toks) x) a
@@ -197,3 +200,35 @@ module _ (toks : List Terminal) where
   types_listed a m b t ts l rest =
       let both = pair_some (ty_of toks) (many_of next_ty_of refl) refl a m b t ts l rest in
       separated_some toks (ty toks) a b t ts (omega (arith, ((pair_of (ty_of toks) (many_of next_ty_of refl) refl).at a).opens (t, ts) b both.0)) both
+
+  -- ---- the written type of a function
+  types_unview : (x : Option (ℕ ⊎ (List Ty × Option ℕ))) (a b : ℕ) → optional (choice (leaf toks k.Dots) (pair (listed toks (ty toks)) (optional (next toks (leaf toks k.Dots))))) x a ≡ Some b → function_types toks (types_back x) a ≡ Some b
+  types_unview None a b e = e
+  types_unview (Some (inl at)) a b e = e
+  types_unview (Some (inr x)) a b e = e
+
+  abbrev last_dots : Known toks true (optional (next toks (leaf toks k.Dots)))
+  last_dots = optional_of (next_of (leaf_of k.Dots))
+
+  abbrev all_part : Known toks false (pair (listed toks (ty toks)) (optional (next toks (leaf toks k.Dots))))
+  all_part = pair_of (listed_of (ty_of toks) refl) last_dots refl
+
+  abbrev written_part : Known toks false (choice (leaf toks k.Dots) (pair (listed toks (ty toks)) (optional (next toks (leaf toks k.Dots)))))
+  written_part = choice_of (leaf_of k.Dots) all_part refl
+
+  module _ (a : ℕ) where
+    pub types_dots : (n : ℕ) → Some n ≡ the toks k.Dots a → Longest (function_types toks) a (Some (ftype_is.Dots a, n))
+    types_dots n h = shape_some (function_types toks) types_back (types_view toks) types_unview {x = Some (inl a)} (optional_some written_part a n (inl a) (choice_left (leaf_of k.Dots) all_part refl a n a (leaf_some toks k.Dots a n h)))
+
+    pub types_empty : None ≡ the toks k.Dots a → Longest (ty toks) a None → Longest (function_types toks) a (Some (ftype_is.Empty, a))
+    types_empty h l = shape_some (function_types toks) types_back (types_view toks) types_unview {x = None} (optional_none (choice (leaf toks k.Dots) (pair (listed toks (ty toks)) (optional (next toks (leaf toks k.Dots))))) a (choice_none (leaf toks k.Dots) (pair (listed toks (ty toks)) (optional (next toks (leaf toks k.Dots)))) a (leaf_none toks k.Dots a h) (pair_stop (listed_of (ty_of toks) refl) last_dots a (listed_none toks (ty toks) a l))))
+
+    pub types_all : (m behind n : ℕ) (t : Ty) (ts : List Ty) (dots : Option ℕ) → Longest (ty toks) a (Some (t, m)) → Longest (many (next toks (ty toks))) m (Some (ts, behind)) → Longest (optional (next toks (leaf toks k.Dots))) behind (Some (dots, n)) → Longest (function_types toks) a (Some (ftype_is.Listed (t ∷ ts) dots, n))
+    types_all m behind n t ts dots l rest last = shape_some (function_types toks) types_back (types_view toks) types_unview {x = Some (inr (t ∷ ts, dots))} (optional_some written_part a n (inr (t ∷ ts, dots)) (choice_right (leaf_of k.Dots) all_part refl a n (t ∷ ts, dots) (pair_some (listed_of (ty_of toks) refl) last_dots refl a behind n (t ∷ ts) dots (listed_some (ty_of toks) refl a m behind t ts l rest) last)))
+
+  abbrev parens_part : Known toks false (pair (function_types toks) (λ (_ : Unit {0}). the toks k.RightParen))
+  parens_part = pair_of (types_of toks) (the_of k.RightParen) refl
+
+  module _ (a first : ℕ) (h : Some first ≡ the toks k.LeftParen a) (f : Ftype) (close : ℕ) (l : Longest (function_types toks) first (Some (f, close))) where
+    pub ftype_no_close : None ≡ the toks k.RightParen close → Longest (ftype toks) a None
+    ftype_no_close n = λ u c e. pair_none (the_of k.LeftParen) parens_part refl a first tt (the_some toks k.LeftParen a first h) (pair_none (types_of toks) (the_of k.RightParen) refl first close f l (the_none toks k.RightParen close n)) (tt, (u, tt)) c e

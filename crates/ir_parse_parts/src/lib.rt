@@ -20,3 +20,5 @@ pub use values::{tvalue, value};
 
 #[cfg(test)]
 mod tests;
+#[cfg(test)]
+mod tests_attributes;

@@ -68,5 +68,11 @@ pub fn leaves(
     requires few { length toks.now < 2 ^ 32 }
     ensures { IfOk result (λ r. Longest (s.many (s.leaf toks.now terminal)) at (Some r)) }
 {
-    Err(NoMemory)
+    let mut found = Items::new(alloc);
+    let mut place = at;
+    while let Some(next) = the(toks, terminal, place) {
+        found.push(place)?;
+        place = next;
+    }
+    Ok((found, place))
 }

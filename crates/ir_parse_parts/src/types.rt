@@ -2,7 +2,7 @@
 ghost use Rattle.std.specs.Prelude.{◌≡◌, ◌<◌, ◌^◌, ◌++◌, List, Some, IfOk, length};
 ghost use Rattle.ir_tree.specs.declared.types.Ty.{Ty};
 ghost use Rattle.ir_tree.specs.declared.terminal.Terminal.TheVariants as k;
-ghost use Rattle.ir_tree.specs.Steps.{Longest, the, many, next, separated};
+ghost use Rattle.ir_tree.specs.Steps.{Longest, the, leaf, many, optional, next, separated};
 ghost use Rattle.ir_tree.specs.Types as production;
 
 use crate::step::the;
@@ -166,10 +166,49 @@ fn next_type(alloc: Global, toks: &[Terminal], at: u32) -> Result<Option<(Ty, u3
     ty(alloc, toks, first)
 }
 
+/// `[',' '...']`
+fn trailing_dots(toks: &[Terminal], at: u32) -> (Option<u32>, u32)
+    requires few { length toks.now < 2 ^ 32 }
+    ensures { Longest (optional (next toks.now (leaf toks.now k.Dots))) at (Some result) }
+{
+    let Some(dots) = the(toks, Terminal::Comma, at) else {
+        return (None, at);
+    };
+    match the(toks, Terminal::Dots, dots) {
+        Some(next) => (Some(dots), next),
+        None => (None, at),
+    }
+}
+
+/// `[ '...' | type (',' type)* [',' '...'] ]`
+fn parameter_types(alloc: Global, toks: &[Terminal], at: u32) -> Result<(Ftype, u32), NoMemory>
+    requires few { length toks.now < 2 ^ 32 }
+    ensures { IfOk result (λ r. Longest (production.types toks.now) at (Some r)) }
+{
+    if let Some(next) = the(toks, Terminal::Dots, at) {
+        return Ok((Ftype::Dots(at), next));
+    }
+    let Some((first, rest)) = ty(alloc, toks, at)? else {
+        return Ok((Ftype::Empty, at));
+    };
+    let mut found = Items::new(alloc);
+    found.push(first)?;
+    let (types, behind) = more_types(alloc, toks, found, rest)?;
+    let (dots, next) = trailing_dots(toks, behind);
+    Ok((Ftype::Listed { types, dots }, next))
+}
+
 /// `'(' [ '...' | type (',' type)* [',' '...'] ] ')'`
 pub fn ftype(alloc: Global, toks: &[Terminal], at: u32) -> Result<Option<(Ftype, u32)>, NoMemory>
     requires few { length toks.now < 2 ^ 32 }
     ensures { IfOk result (λ r. Longest (production.ftype toks.now) at r) }
 {
-    Err(NoMemory)
+    let Some(first) = the(toks, Terminal::LeftParen, at) else {
+        return Ok(None);
+    };
+    let (parameters, close) = parameter_types(alloc, toks, first)?;
+    match the(toks, Terminal::RightParen, close) {
+        Some(next) => Ok(Some((parameters, next))),
+        None => Ok(None),
+    }
 }
