@@ -175,3 +175,123 @@ module _ (toks : List Terminal) where
 
     pub freeze_ends : (of : Tvalue) (end : ℕ) → Longest (tvalue toks) first (Some (of, end)) → Longest (instr toks) a (Some (instr_is.Freeze a of, end))
     freeze_ends of end l = rest_some (freeze_rest toks a first h) l
+
+  -- ---- arm
+  abbrev from_part : Known toks false (pair (leaf toks k.Local) (λ (_ : Unit {0}). the toks k.RightBracket))
+  from_part = pair_of (leaf_of k.Local) (the_of k.RightBracket) refl
+
+  abbrev comma_part : Known toks false (pair (comma toks) (pair (leaf toks k.Local) (λ (_ : Unit {0}). the toks k.RightBracket)))
+  comma_part = pair_of (the_of k.Comma) from_part refl
+
+  abbrev value_part : Known toks false (pair (value toks) (pair (comma toks) (pair (leaf toks k.Local) (λ (_ : Unit {0}). the toks k.RightBracket))))
+  value_part = pair_of (value_of toks) comma_part refl
+
+  module _ (a first : ℕ) (h : Some first ≡ the toks k.LeftBracket a) where
+    value_rest : Remains (arm toks) a (pair (value toks) (pair (comma toks) (pair (leaf toks k.Local) (λ (_ : Unit {0}). the toks k.RightBracket)))) first (λ x. record { value = x.0; from = x.1.1.0 })
+    value_rest = then_rest arm_rest (pair_rest (the_of k.LeftBracket) value_part refl (the_some toks k.LeftBracket a first h))
+      where
+        arm_rest : Remains (arm toks) a (pair (λ (_ : Unit {0}). the toks k.LeftBracket) (pair (value toks) (pair (comma toks) (pair (leaf toks k.Local) (λ (_ : Unit {0}). the toks k.RightBracket))))) a (λ x. record { value = x.1.0; from = x.1.1.1.0 })
+        arm_rest = record { fits = λ x c e. e; only = λ x c e. ((tt, (x.value, (tt, (x.from, tt)))), e) }
+
+    pub arm_no_value : Longest (value toks) first None → Longest (arm toks) a None
+    arm_no_value n = rest_none value_rest (pair_stop (value_of toks) comma_part first n)
+
+    module _ (of : Value) (place : ℕ) (valued : Longest (value toks) first (Some (of, place))) where
+      behind_value : Remains (arm toks) a (pair (comma toks) (pair (leaf toks k.Local) (λ (_ : Unit {0}). the toks k.RightBracket))) place (λ x. record { value = of; from = x.1.0 })
+      behind_value = then_rest value_rest (pair_rest (value_of toks) comma_part refl valued)
+
+      pub arm_no_comma : None ≡ the toks k.Comma place → Longest (arm toks) a None
+      arm_no_comma n = rest_none behind_value (pair_stop (the_of k.Comma) from_part place (the_none toks k.Comma place n))
+
+      module _ (from : ℕ) (h' : Some from ≡ the toks k.Comma place) where
+        from_rest : Remains (arm toks) a (pair (leaf toks k.Local) (λ (_ : Unit {0}). the toks k.RightBracket)) from (λ x. record { value = of; from = x.0 })
+        from_rest = then_rest behind_value (pair_rest (the_of k.Comma) from_part refl (the_some toks k.Comma place from h'))
+
+        pub arm_no_block : None ≡ the toks k.Local from → Longest (arm toks) a None
+        arm_no_block n = rest_none from_rest (pair_stop (leaf_of k.Local) (the_of k.RightBracket) from (leaf_none toks k.Local from n))
+
+        module _ (close : ℕ) (h'' : Some close ≡ the toks k.Local from) where
+          close_rest : Remains (arm toks) a (λ (_ : Unit {0}). the toks k.RightBracket) close (λ x. record { value = of; from = from })
+          close_rest = then_rest from_rest (pair_rest (leaf_of k.Local) (the_of k.RightBracket) refl (leaf_some toks k.Local from close h''))
+
+          pub arm_no_close : None ≡ the toks k.RightBracket close → Longest (arm toks) a None
+          arm_no_close n = rest_none close_rest (the_none toks k.RightBracket close n)
+
+          pub arm_ends : (end : ℕ) → Some end ≡ the toks k.RightBracket close → Longest (arm toks) a (Some (record { value = of; from = from }, end))
+          arm_ends end e = rest_some close_rest (the_some toks k.RightBracket close end e)
+
+  -- ---- phi
+  listed_none : {T : Type 0} (p : T → Step) (a : ℕ) → Longest p a None → Longest (listed toks p) a None
+  listed_none {T} p a stop = go
+    where
+      go : (us : List T) (c : ℕ) → listed toks p us a ≡ Some c → ⊥
+      go [] c e = cc
+      go (u ∷ us) c e = let s = split (p u a) (many (next toks p) us) c e in stop u s.0 s.1.0
+
+  listed_some : {T : Type 0} (p : T → Step) (a b : ℕ) (t : T) (ts : List T) → Longest (pair p (many (next toks p))) a (Some ((t, ts), b)) → Longest (listed toks p) a (Some (t ∷ ts, b))
+  listed_some {T} p a b t ts l = (l.0, go)
+    where
+      go : (us : List T) (c : ℕ) → listed toks p us a ≡ Some c → c ≤ b
+      go [] c e = cc
+      go (u ∷ us) c e = l.1 (u, us) c e
+
+  abbrev pub next_arm_of : Known toks false (next toks (arm toks))
+  next_arm_of = next_of (arm_of toks)
+
+  pub arms_none : (a : ℕ) → Longest (arm toks) a None → Longest (listed toks (arm toks)) a None
+  arms_none a n = listed_none (arm toks) a n
+
+  pub arms_all : (a m b : ℕ) (t : Arm) (ts : List Arm) → Longest (arm toks) a (Some (t, m)) → Longest (many (next toks (arm toks))) m (Some (ts, b)) → Longest (listed toks (arm toks)) a (Some (t ∷ ts, b))
+  arms_all a m b t ts l rest = listed_some (arm toks) a b t ts (pair_some (arm_of toks) (many_of next_arm_of refl) refl a m b t ts l rest)
+
+  -- an arm behind a comma ends behind it, within the tokens
+  pub next_arm_ends : (a n : ℕ) (t : Arm) → Longest (next toks (arm toks)) a (Some (t, n)) → (a < n) × (n ≤ length toks)
+  next_arm_ends a n t l =
+      let s = split (the toks k.Comma a) (arm toks t) n l.0 in
+      ((moves toks next_arm_of.first a n ((next_arm_of.at a).opens t n l.0)).0, ((arm_of toks).at s.0).within t n s.1.1 (the_moves toks k.Comma a s.0 s.1.0).1)
+
+  module _ (a first : ℕ) (h : Some first ≡ the toks k.Phi a) where
+    pub phi_no_type : Longest (ty toks) first None → Longest (instr toks) a None
+    phi_no_type n = rest_none (phi_rest toks a first h) (pair_stop (ty_of toks) (listed_of (arm_of toks) refl) first n)
+
+    module _ (kind : Ty) (place : ℕ) (typed : Longest (ty toks) first (Some (kind, place))) where
+      arms_rest : Remains (instr toks) a (listed toks (arm toks)) place (λ arms. instr_is.Phi a kind arms)
+      arms_rest = then_rest (phi_rest toks a first h) (pair_rest (ty_of toks) (listed_of (arm_of toks) refl) refl typed)
+
+      pub phi_no_arms : Longest (listed toks (arm toks)) place None → Longest (instr toks) a None
+      phi_no_arms n = rest_none arms_rest n
+
+      pub phi_ends : (arms : List Arm) (end : ℕ) → Longest (listed toks (arm toks)) place (Some (arms, end)) → Longest (instr toks) a (Some (instr_is.Phi a kind arms, end))
+      phi_ends arms end l = rest_some arms_rest l
+
+  -- ---- getelementptr
+  abbrev pub next_tvalue_of : Known toks false (next toks (tvalue toks))
+  next_tvalue_of = next_of (tvalue_of toks)
+
+  pub next_tvalue_ends : (a n : ℕ) (t : Tvalue) → Longest (next toks (tvalue toks)) a (Some (t, n)) → (a < n) × (n ≤ length toks)
+  next_tvalue_ends a n t l =
+      let s = split (the toks k.Comma a) (tvalue toks t) n l.0 in
+      ((moves toks next_tvalue_of.first a n ((next_tvalue_of.at a).opens t n l.0)).0, ((tvalue_of toks).at s.0).within t n s.1.1 (the_moves toks k.Comma a s.0 s.1.0).1)
+
+  abbrev operands_part : Known toks false (some (next toks (tvalue toks)))
+  operands_part = some_of next_tvalue_of refl
+
+  abbrev elem_part : Known toks false (pair (ty toks) (some (next toks (tvalue toks))))
+  elem_part = pair_of (ty_of toks) operands_part refl
+
+  module _ (a first : ℕ) (h : Some first ≡ the toks k.GetElementPtr a) (flags : List Gepflag) (place : ℕ) (flagged : Longest (many (gepflag toks)) first (Some (flags, place))) where
+    elem_rest : Remains (instr toks) a (pair (ty toks) (some (next toks (tvalue toks)))) place (λ x. instr_is.GetElementPtr a flags x.0 x.1)
+    elem_rest = then_rest (gep_rest toks a first h) (pair_rest (many_of (gepflag_known toks) refl) elem_part refl flagged)
+
+    pub gep_no_type : Longest (ty toks) place None → Longest (instr toks) a None
+    gep_no_type n = rest_none elem_rest (pair_stop (ty_of toks) operands_part place n)
+
+    module _ (elem : Ty) (after : ℕ) (typed : Longest (ty toks) place (Some (elem, after))) where
+      operands_rest : Remains (instr toks) a (some (next toks (tvalue toks))) after (λ operands. instr_is.GetElementPtr a flags elem operands)
+      operands_rest = then_rest elem_rest (pair_rest (ty_of toks) operands_part refl typed)
+
+      pub gep_no_operands : Longest (some (next toks (tvalue toks))) after None → Longest (instr toks) a None
+      gep_no_operands n = rest_none operands_rest n
+
+      pub gep_ends : (operands : List Tvalue) (end : ℕ) → Longest (some (next toks (tvalue toks))) after (Some (operands, end)) → Longest (instr toks) a (Some (instr_is.GetElementPtr a flags elem operands, end))
+      gep_ends operands end l = rest_some operands_rest l
