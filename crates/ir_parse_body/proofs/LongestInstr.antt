@@ -13,7 +13,7 @@ use Rattle.ir_tree.specs.declared.instructions.Arm.{Arm}
 use Rattle.ir_tree.specs.declared.instructions.Call.{Call}
 use Rattle.ir_tree.specs.declared.instructions.Instr.{Instr}
 use Rattle.ir_tree.specs.declared.instructions.Instr.TheVariants as instr_is
-use Rattle.ir_tree.specs.Steps.{Step, is, among, sees, stands, when, the, passing, leaf, one_of, many, some, optional, next, listed, Longest}
+use Rattle.ir_tree.specs.Steps.{Step, is, among, seen, sees, stands, when, the, passing, leaf, one_of, many, some, optional, next, listed, Longest}
 use Rattle.ir_tree.specs.Types.{ty}
 use Rattle.ir_tree.specs.Constants.{iflag, gepflag}
 use Rattle.ir_tree.specs.Values.{value, tvalue}
@@ -22,8 +22,8 @@ use Rattle.ir_tree.proofs.Looks.{both, one, falls, token_seen}
 use Rattle.ir_tree.proofs.Clear.{pair, split, some_same, when_true, moves}
 use Rattle.ir_tree.proofs.ClearInstructions.{call_of}
 use Rattle.ir_parse_parts.specs.Parts.{any_of}
-use Rattle.ir_parse_parts.proofs.Longest.{taken}
-use Rattle.ir_parse_body.proofs.Remains.{Remains}
+use Rattle.ir_parse_parts.proofs.Longest.{taken, nothing}
+use Rattle.ir_parse_body.proofs.Remains.{Remains, rest_some}
 
 -- a tree of the production is there, and ends here
 abbrev pub Fits : {T : Type 0} → (T → Step) → ℕ → ℕ → Type 0
@@ -205,3 +205,43 @@ module _ (toks : List Terminal) where
 
     pub gep_rest : Some first ≡ the toks k.GetElementPtr a → Remains (instr toks) a gep_parts first (λ x. instr_is.GetElementPtr a x.0 x.1.0 x.1.1)
     gep_rest h = behind_token (λ x. instr_is.GetElementPtr x.0 x.1.0 x.1.1.0 x.1.1.1) a first k.GetElementPtr h (λ x c e. e) (λ c b. b)
+
+  -- ---- a call, where no other instruction begins
+  -- what is seen of a token is what the test says of it
+  sees_at : (set : List Terminal) (t : Terminal) (a : ℕ) → slice_get toks a ≡ Some t → sees toks (among set) a ≡ among set t
+  unfolding sees
+  sees_at set t a h = ap (λ o. seen (among set) o) h
+
+  absent : (set : List Terminal) (t : Terminal) (a : ℕ) → None ≡ any_of toks set a → among set t ≡ true → slice_get toks a ≡ Some t → ⊥
+  absent set t a n one' h = nothing (suc a) (n ∙ ap (λ x. when x (suc a)) (sees_at set t a h ∙ one'))
+
+  module _ (a : ℕ)
+      (no_binop : None ≡ any_of toks (k.ConstBinop ∷ k.Binop ∷ []) a) (no_icmp : None ≡ the toks k.Icmp a)
+      (no_cast : None ≡ any_of toks (k.ConstCast ∷ k.Cast ∷ []) a) (no_select : None ≡ the toks k.Select a)
+      (no_freeze : None ≡ the toks k.Freeze a) (no_phi : None ≡ the toks k.Phi a)
+      (no_alloca : None ≡ the toks k.Alloca a) (no_load : None ≡ the toks k.Load a)
+      (no_store : None ≡ the toks k.Store a) (no_gep : None ≡ the toks k.GetElementPtr a)
+      (no_landing : None ≡ the toks k.LandingPad a) where
+    only_call : (c : ℕ) (t : Terminal) → slice_get toks a ≡ Some t → Begun t a c → Fits (call toks) a c
+    only_call c k.ConstBinop h b = absurd (absent (k.ConstBinop ∷ k.Binop ∷ []) k.ConstBinop a no_binop refl h)
+    only_call c k.Binop h b = absurd (absent (k.ConstBinop ∷ k.Binop ∷ []) k.Binop a no_binop refl h)
+    only_call c k.Icmp h b = absurd (absent (k.Icmp ∷ []) k.Icmp a no_icmp refl h)
+    only_call c k.ConstCast h b = absurd (absent (k.ConstCast ∷ k.Cast ∷ []) k.ConstCast a no_cast refl h)
+    only_call c k.Cast h b = absurd (absent (k.ConstCast ∷ k.Cast ∷ []) k.Cast a no_cast refl h)
+    only_call c k.Select h b = absurd (absent (k.Select ∷ []) k.Select a no_select refl h)
+    only_call c k.Freeze h b = absurd (absent (k.Freeze ∷ []) k.Freeze a no_freeze refl h)
+    only_call c k.Phi h b = absurd (absent (k.Phi ∷ []) k.Phi a no_phi refl h)
+    only_call c k.Alloca h b = absurd (absent (k.Alloca ∷ []) k.Alloca a no_alloca refl h)
+    only_call c k.Load h b = absurd (absent (k.Load ∷ []) k.Load a no_load refl h)
+    only_call c k.Store h b = absurd (absent (k.Store ∷ []) k.Store a no_store refl h)
+    only_call c k.GetElementPtr h b = absurd (absent (k.GetElementPtr ∷ []) k.GetElementPtr a no_gep refl h)
+    only_call c k.LandingPad h b = absurd (absent (k.LandingPad ∷ []) k.LandingPad a no_landing refl h)
+    only_call c k.Tail h b = b
+    only_call c k.Call h b = b
+    only_call c other h b = absurd b
+
+    call_rest : Remains (instr toks) a (call toks) a (λ x. instr_is.Call x)
+    call_rest = record { fits = λ x c e. e; only = λ u c e. let b = begun u a c e in only_call c b.0 b.1.0 b.1.1 }
+
+    pub instr_call : (x : Call) (end : ℕ) → Longest (call toks) a (Some (x, end)) → Longest (instr toks) a (Some (instr_is.Call x, end))
+    instr_call x end l = rest_some call_rest l
