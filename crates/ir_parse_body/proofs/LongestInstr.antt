@@ -1,5 +1,5 @@
 -- An instruction by its first token: which tree it may be, and what is left of it behind the token.
-use Rattle.std.proofs.Common.{◌≡◌, ℕ, suc, Bool, true, false, List, [], ◌∷◌, Option, None, Some, ◌⊎◌, inl, inr, ⊎_elim, eqb, eq-eqb, ◌&&◌, refl, sym, ap, ◌∙◌, subst}
+use Rattle.std.proofs.Common.{◌≡◌, ℕ, suc, true, false, List, [], ◌∷◌, Option, None, Some, ◌⊎◌, inl, inr, ⊎_elim, eqb, eq-eqb, ◌&&◌, refl, sym, ap, ◌∙◌, subst}
 use Rattle.std.specs.Prelude.{slice_get}
 use denote.Enum.Bare.{same_true}
 use Rattle.ir_tree.specs.contracts.terminal.Terminal.{the_type}
@@ -13,13 +13,13 @@ use Rattle.ir_tree.specs.declared.instructions.Arm.{Arm}
 use Rattle.ir_tree.specs.declared.instructions.Call.{Call}
 use Rattle.ir_tree.specs.declared.instructions.Instr.{Instr}
 use Rattle.ir_tree.specs.declared.instructions.Instr.TheVariants as instr_is
-use Rattle.ir_tree.specs.Steps.{Step, is, among, seen, sees, stands, when, the, passing, leaf, one_of, many, some, optional, next, listed, Longest}
+use Rattle.ir_tree.specs.Steps.{Step, is, among, seen, sees, stands, when, the, leaf, one_of, many, some, optional, next, listed, Longest}
 use Rattle.ir_tree.specs.Types.{ty}
 use Rattle.ir_tree.specs.Constants.{iflag, gepflag}
 use Rattle.ir_tree.specs.Values.{value, tvalue}
 use Rattle.ir_tree.specs.Instructions.{binop, castop, volatile, alignment, arm, clause, call, instr}
 use Rattle.ir_tree.proofs.Looks.{both, one, falls, token_seen}
-use Rattle.ir_tree.proofs.Clear.{pair, split, some_same, when_true, moves}
+use Rattle.ir_tree.proofs.Clear.{pair, split, when_true, moves}
 use Rattle.ir_tree.proofs.ClearInstructions.{call_of}
 use Rattle.ir_parse_parts.specs.Parts.{any_of}
 use Rattle.ir_parse_parts.proofs.Longest.{taken, nothing}

@@ -1,5 +1,5 @@
 -- The longest operation on values, from its parts.
-use Rattle.std.proofs.Common.{◌≡◌, ℕ, false, ◌<◌, ◌≤◌, List, [], ◌∷◌, length, Option, None, Some, refl, sym, ap, ◌∙◌, arith}
+use Rattle.std.proofs.Common.{◌≡◌, ℕ, false, ◌<◌, ◌≤◌, List, [], ◌∷◌, length, None, Some, refl}
 use Rattle.ir_tree.specs.declared.terminal.Terminal.{Terminal}
 use Rattle.ir_tree.specs.declared.terminal.Terminal.TheVariants as k
 use Rattle.ir_tree.specs.declared.types.Ty.{Ty}
@@ -25,7 +25,7 @@ use Rattle.ir_parse_parts.proofs.LongestTypes.{the_moves}
 use Rattle.ir_parse_body.specs.declared.operations.Sides.{Sides}
 use Rattle.ir_parse_body.specs.Parts.{operands}
 use Rattle.ir_parse_body.proofs.Remains.{Remains, rest_none, rest_some, then_rest, pair_rest, comma_rest, next_rest}
-use Rattle.ir_parse_body.proofs.LongestInstr.{comma, two_values, binop_parts, icmp_parts, cast_parts, select_parts, phi_parts, gep_parts, binop_rest, icmp_rest, cast_rest, select_rest, freeze_rest, phi_rest, gep_rest}
+use Rattle.ir_parse_body.proofs.LongestInstr.{comma, two_values, binop_rest, icmp_rest, cast_rest, select_rest, freeze_rest, phi_rest, gep_rest}
 
 module _ (toks : List Terminal) where
   -- ---- `type value ',' value`

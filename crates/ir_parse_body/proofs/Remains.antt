@@ -1,9 +1,9 @@
 -- What is left of a production once its first part was read.
-use Rattle.std.proofs.Common.{◌≡◌, ℕ, ◌<◌, Bool, true, false, List, Option, None, Some, ◌⊎◌, inl, inr, ⊎_elim, refl, sym, ap, ◌∙◌, subst, arith}
+use Rattle.std.proofs.Common.{◌≡◌, ℕ, Bool, true, false, List, None, Some, ◌⊎◌, inl, inr, ⊎_elim, sym, ap, ◌∙◌, subst, arith}
 use Rattle.ir_tree.specs.declared.terminal.Terminal.{Terminal}
 use Rattle.ir_tree.specs.declared.terminal.Terminal.TheVariants as k
 use Rattle.ir_tree.specs.Steps.{Step, the, next, Longest}
-use Rattle.ir_tree.proofs.Looks.{apart, At, at_clash}
+use Rattle.ir_tree.proofs.Looks.{apart, at_clash}
 use Rattle.ir_tree.proofs.Clear.{pair, choice, split, some_same, then_then, moves}
 use Rattle.ir_tree.proofs.Known.{Known, next_of}
 use Rattle.ir_parse_parts.proofs.Longest.{taken}

@@ -36,11 +36,7 @@ fn alignment(toks: &[Terminal], at: u32) -> (Option<u32>, u32)
 }
 
 /// `[',' tvalue]`
-fn count(
-    alloc: Global,
-    toks: &[Terminal],
-    at: u32,
-) -> Result<(Option<Tvalue>, u32), NoMemory>
+fn count(alloc: Global, toks: &[Terminal], at: u32) -> Result<(Option<Tvalue>, u32), NoMemory>
     requires few { length toks.now < 2 ^ 32 }
     ensures { IfOk result (λ r. Longest (optional (next toks.now (tvalue toks.now))) at (Some r)) }
 {

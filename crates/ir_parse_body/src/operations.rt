@@ -9,7 +9,7 @@ ghost use Rattle.ir_parse_body.specs.Parts as spec;
 
 use attr_ids::NoMemory;
 use ir_parse_parts::{gepflags, iflags, the, tvalue, ty, value};
-use ir_tree::{Arm, Icmp, Instr, Select, Terminal, Ty, Tvalue, Value};
+use ir_tree::{Arm, Icmp, Instr, Select, Terminal, Tvalue, Ty, Value};
 use sqlite_items::{Boxed, Items};
 use std::alloc::Global;
 
@@ -22,11 +22,7 @@ pub(crate) struct Sides {
 }
 
 /// `type value ',' value`
-fn operands(
-    alloc: Global,
-    toks: &[Terminal],
-    at: u32,
-) -> Result<Option<(Sides, u32)>, NoMemory>
+fn operands(alloc: Global, toks: &[Terminal], at: u32) -> Result<Option<(Sides, u32)>, NoMemory>
     requires few { length toks.now < 2 ^ 32 }
     ensures { IfOk result (λ r. Longest (spec.operands toks.now) at r) }
 {
@@ -72,16 +68,16 @@ pub(crate) fn binop(
     ensures { IfOk result (λ r. Longest (production.instr toks.now) start r) }
 {
     let (flags, place) = iflags(alloc, toks, first)?;
-    let Some((of, next)) = operands(alloc, toks, place)? else {
+    let Some((sides, next)) = operands(alloc, toks, place)? else {
         return Ok(None);
     };
     Ok(Some((
         Instr::Binop {
             op: start,
             flags,
-            ty: of.ty,
-            left: of.left,
-            right: of.right,
+            ty: sides.ty,
+            left: sides.left,
+            right: sides.right,
         },
         next,
     )))
@@ -102,16 +98,16 @@ pub(crate) fn icmp(
     let Some(place) = the(toks, Terminal::Pred, pred) else {
         return Ok(None);
     };
-    let Some((of, next)) = operands(alloc, toks, place)? else {
+    let Some((compared, next)) = operands(alloc, toks, place)? else {
         return Ok(None);
     };
     let icmp = Icmp {
         op: start,
         flags,
         pred,
-        ty: of.ty,
-        left: of.left,
-        right: of.right,
+        ty: compared.ty,
+        left: compared.left,
+        right: compared.right,
     };
     Ok(Some((Instr::Icmp(Boxed::new(alloc, icmp)?), next)))
 }

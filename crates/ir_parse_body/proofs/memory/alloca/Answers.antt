@@ -1,8 +1,7 @@
 use Rattle.std.proofs.Common.{Some, sym, subst}
 use Rattle.ir_tree.specs.declared.instructions.Instr.TheVariants as instr_is
-use Rattle.ir_tree.specs.Steps.{Longest, next}
+use Rattle.ir_tree.specs.Steps.{Longest}
 use Rattle.ir_tree.specs.Types.{ty}
-use Rattle.ir_tree.specs.Values.{tvalue}
 use Rattle.ir_tree.specs.Instructions.{instr}
 use Rattle.ir_parse_body.proofs.LongestMemory as memory
 use Rattle.ir_parse_body.proofs.memory.alloca.Goals as goal

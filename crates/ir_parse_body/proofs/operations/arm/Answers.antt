@@ -1,5 +1,5 @@
-use Rattle.std.proofs.Common.{sym, subst}
-use Rattle.ir_tree.specs.Steps.{Longest, the}
+use Rattle.std.proofs.Common.{subst}
+use Rattle.ir_tree.specs.Steps.{Longest}
 use Rattle.ir_tree.specs.Values.{value}
 use Rattle.ir_parse_body.proofs.LongestOperations as op
 use Rattle.ir_parse_body.proofs.operations.arm.Goals as goal

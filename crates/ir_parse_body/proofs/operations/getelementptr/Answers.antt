@@ -1,8 +1,7 @@
 use Rattle.std.proofs.Common.{sym, subst}
-use Rattle.ir_tree.specs.Steps.{Longest, listed, some, next}
+use Rattle.ir_tree.specs.Steps.{Longest, some, next}
 use Rattle.ir_tree.specs.Types.{ty}
 use Rattle.ir_tree.specs.Values.{tvalue}
-use Rattle.ir_tree.specs.Instructions.{arm}
 use Rattle.ir_parse_body.proofs.LongestOperations as op
 use Rattle.ir_parse_body.proofs.operations.getelementptr.Goals as goal
 

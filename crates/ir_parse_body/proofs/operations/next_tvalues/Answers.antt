@@ -1,7 +1,6 @@
-use Rattle.std.proofs.Common.{rules, ◌≡◌, ◌++◌, List, [], ◌∷◌, Some, sym, ap, ◌∙◌, subst, refl, arith}
+use Rattle.std.proofs.Common.{rules, ◌≡◌, ◌++◌, [], ◌∷◌, Some, sym, ap, ◌∙◌, subst, refl, arith}
 use Rattle.std.proofs.lemmas.List.{append_assoc}
-use Rattle.ir_tree.specs.declared.values.Tvalue.{Tvalue}
-use Rattle.ir_tree.specs.Steps.{Longest, next, listed, some}
+use Rattle.ir_tree.specs.Steps.{Longest, next, some}
 use Rattle.ir_tree.specs.Values.{tvalue}
 use Rattle.ir_parse_parts.proofs.Longest.{reached_first, reached_next, reached_all, some_some, some_none}
 use Rattle.ir_parse_body.proofs.LongestOperations as op

@@ -1,8 +1,7 @@
-use Rattle.std.proofs.Common.{sym, subst}
-use Rattle.ir_tree.specs.Steps.{Longest, next}
+use Rattle.std.proofs.Common.{subst}
+use Rattle.ir_tree.specs.Steps.{Longest}
 use Rattle.ir_tree.specs.Types.{ty}
-use Rattle.ir_tree.specs.Values.{value, tvalue}
-use Rattle.ir_parse_body.specs.Parts.{operands}
+use Rattle.ir_tree.specs.Values.{value}
 use Rattle.ir_parse_body.proofs.LongestOperations as op
 use Rattle.ir_parse_body.proofs.operations.operands.Goals as goal
 

@@ -1,7 +1,6 @@
 use Rattle.std.proofs.Common.{sym, subst}
-use Rattle.ir_tree.specs.Steps.{Longest, listed, some, next}
+use Rattle.ir_tree.specs.Steps.{Longest, listed}
 use Rattle.ir_tree.specs.Types.{ty}
-use Rattle.ir_tree.specs.Values.{tvalue}
 use Rattle.ir_tree.specs.Instructions.{arm}
 use Rattle.ir_parse_body.proofs.LongestOperations as op
 use Rattle.ir_parse_body.proofs.operations.phi.Goals as goal
