@@ -9,3 +9,5 @@ mod landing;
 mod memory;
 mod operations;
 mod terms;
+#[cfg(test)]
+mod tests_instructions;

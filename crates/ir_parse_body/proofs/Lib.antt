@@ -1,0 +1,4 @@
+pub mod Remains
+pub mod LongestInstr
+pub mod LongestOperations
+pub mod LongestMemory
