@@ -1,0 +1,2 @@
+pub mod LongestCalls
+pub mod LongestLanding

@@ -1,0 +1,1 @@
+-- The longest landing pad from the longest of its parts.
