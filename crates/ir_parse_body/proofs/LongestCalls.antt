@@ -174,9 +174,6 @@ module _ (toks : List Terminal) where
   abbrev pub passed_of : Known toks false (passed toks)
   passed_of = shape_of passed_back passed_view (pair_of (the_of k.LeftParen) listed_of refl)
 
-  pub passed_no_open : (a : ℕ) → None ≡ the toks k.LeftParen a → Longest (passed toks) a None
-  passed_no_open a n = shape_none (passed toks) passed_back passed_view (λ x a b e. e) (pair_stop (the_of k.LeftParen) listed_of a (the_none toks k.LeftParen a n))
-
   module _ (a first : ℕ) (h : Some first ≡ the toks k.LeftParen a) (args : List Arg) (close : ℕ) (l : Longest (separated toks (arg toks)) first (Some (args, close))) where
     pub passed_no_close : None ≡ the toks k.RightParen close → Longest (passed toks) a None
     passed_no_close n =
@@ -325,9 +322,6 @@ module _ (toks : List Terminal) where
 
   abbrev invoked_of : Known toks false (pair (called toks) (pair (passed toks) (destinations toks)))
   invoked_of = pair_of called_of onward_of refl
-
-  pub invoke_no_op : (a : ℕ) → None ≡ the toks k.Invoke a → Longest (invoke toks) a None
-  invoke_no_op a n = shape_none (invoke toks) invoke_back invoke_view invoke_unview (pair_stop (leaf_of k.Invoke) invoked_of a (leaf_none toks k.Invoke a n))
 
   module _ (a first : ℕ) (h : Some first ≡ the toks k.Invoke a) where
     -- no invoke is where none fits behind its word
