@@ -9,3 +9,6 @@ mod landing;
 mod memory;
 mod operations;
 mod terms;
+
+#[cfg(test)]
+mod tests_calls;
