@@ -11,3 +11,5 @@ mod operations;
 mod terms;
 #[cfg(test)]
 mod tests_instructions;
+
+mod tests_calls;
