@@ -3,9 +3,12 @@
 //! rests on one contract: `parse_body` answers the longest body, and refuses exactly where none fits.
 #![tactic(auto)]
 
+mod blocks;
 mod calls;
 mod instructions;
 mod landing;
 mod memory;
 mod operations;
 mod terms;
+
+pub use blocks::body;
