@@ -22,8 +22,14 @@ pub fn body(alloc: Global, toks: &[Terminal], at: u32) -> Result<Option<(Body, u
     let Some((first, place)) = first(alloc, toks, at)? else {
         return Ok(None);
     };
-    let (blocks, next) = blocks(alloc, toks, place)?;
-    Ok(Some((Body { first, blocks }, next)))
+    let (others, next) = blocks(alloc, toks, place)?;
+    Ok(Some((
+        Body {
+            first,
+            blocks: others,
+        },
+        next,
+    )))
 }
 
 /// `block*`
