@@ -1,3 +1,4 @@
+pub mod Offsets
 pub mod Sequences
 pub mod LongestTerms
 pub mod LongestBlocks

@@ -9,6 +9,10 @@ mod instructions;
 mod landing;
 mod memory;
 mod operations;
+mod parse;
+mod refusal;
 mod terms;
 
 pub use blocks::body;
+pub use parse::{parse_body, terminals};
+pub use refusal::SyntaxRefusal;
