@@ -16,3 +16,6 @@ mod terms;
 pub use blocks::body;
 pub use parse::{parse_body, terminals};
 pub use refusal::SyntaxRefusal;
+
+#[cfg(test)]
+mod tests_blocks;
