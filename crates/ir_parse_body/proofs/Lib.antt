@@ -4,3 +4,7 @@ pub mod LongestOperations
 pub mod LongestMemory
 pub mod LongestCalls
 pub mod LongestLanding
+pub mod Offsets
+pub mod Sequences
+pub mod LongestTerms
+pub mod LongestBlocks

@@ -3,13 +3,22 @@
 //! rests on one contract: `parse_body` answers the longest body, and refuses exactly where none fits.
 #![tactic(auto)]
 
+mod blocks;
 mod calls;
 mod instructions;
 mod landing;
 mod memory;
 mod operations;
+mod parse;
+mod refusal;
 mod terms;
 #[cfg(test)]
 mod tests_instructions;
 
 mod tests_calls;
+
+pub use blocks::body;
+pub use parse::{parse_body, terminals};
+pub use refusal::SyntaxRefusal;
+
+mod tests_blocks;
