@@ -13,12 +13,12 @@ mod parse;
 mod refusal;
 mod terms;
 #[cfg(test)]
-mod tests_instructions;
-
+mod tests_blocks;
+#[cfg(test)]
 mod tests_calls;
+#[cfg(test)]
+mod tests_instructions;
 
 pub use blocks::body;
 pub use parse::{parse_body, terminals};
 pub use refusal::SyntaxRefusal;
-
-mod tests_blocks;
