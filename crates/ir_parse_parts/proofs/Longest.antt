@@ -110,7 +110,7 @@ module _ (toks : List Terminal) (test : Terminal → Bool) (a : ℕ) where
   pub passing_itself : passing toks test a a ≡ when (sees toks test a) (suc a)
   passing_itself = ap (λ x. when (x && sees toks test a) (suc a)) (place_itself a)
 
-  passing_behind : (u c : ℕ) → passing toks test u a ≡ Some c → when (sees toks test a) (suc a) ≡ Some c
+  pub passing_behind : (u c : ℕ) → passing toks test u a ≡ Some c → when (sees toks test a) (suc a) ≡ Some c
   passing_behind u c e =
       let f = when_true (eqb u a && sees toks test a) (suc a) c e in
       ap (λ x. when x (suc a)) (both (eqb u a) (sees toks test a) f.0).1 ∙ ap Some (sym f.1)
@@ -127,18 +127,16 @@ module _ (toks : List Terminal) (t : Terminal) (a : ℕ) where
   here b h = inl ((when_true (stands toks t a) (suc a) b (sym h)).0, tt)
 
   pub leaf_is_the : leaf toks t a a ≡ the toks t a
-  leaf_is_the = ap (λ x. when (x && stands toks t a) (suc a)) (place_itself a)
+  leaf_is_the = passing_itself toks (among (t ∷ [])) a
 
   pub the_of_leaf : (u c : ℕ) → leaf toks t u a ≡ Some c → the toks t a ≡ Some c
-  the_of_leaf u c e =
-      let f = when_true (eqb u a && stands toks t a) (suc a) c e in
-      ap (λ x. when x (suc a)) (both (eqb u a) (stands toks t a) f.0).1 ∙ ap Some (sym f.1)
+  the_of_leaf = passing_behind toks (among (t ∷ [])) a
 
   pub leaf_some : (b : ℕ) → Some b ≡ the toks t a → Longest (leaf toks t) a (Some (a, b))
-  leaf_some b h = (leaf_is_the ∙ sym h, λ u c e. let same : b ≡ c = some_same b c (h ∙ the_of_leaf u c e) in omega (arith, same))
+  leaf_some = passing_some toks (among (t ∷ [])) a
 
   pub leaf_none : None ≡ the toks t a → Longest (leaf toks t) a None
-  leaf_none h = λ u c e. nothing c (h ∙ the_of_leaf u c e)
+  leaf_none = passing_none toks (among (t ∷ [])) a
 
   pub the_some : (b : ℕ) → Some b ≡ the toks t a → Longest {T = Unit {0}} (λ _. the toks t) a (Some (tt, b))
   the_some b h = (sym h, λ _ c e. let same : b ≡ c = some_same b c (h ∙ e) in omega (arith, same))

@@ -18,7 +18,7 @@ use Rattle.ir_tree.proofs.Looks.Test.{In}
 use Rattle.ir_tree.proofs.Clear.{pair, choice, token_reads, separated_map, when_true, moves, split}
 use Rattle.ir_tree.proofs.Known.{Known, firsts, leaf_of, the_of, pair_of, choice_of, optional_of, listed_of, separated_of, next_of, many_of}
 use Rattle.ir_tree.proofs.ClearTypes.{ty_first, ty_reads, ty_of, Shape, back, shape, view, array, struct, packed, types_back, types_view, types_of}
-use Rattle.ir_parse_parts.proofs.Longest.{taken, leaf_is_the, leaf_some, leaf_none, the_some, the_none, pair_none, pair_stop, not_begun, longest_by, none_by, pair_some, separated_some, choice_left, choice_right, choice_none, optional_some, optional_none, shape_some, listed_some, listed_none}
+use Rattle.ir_parse_parts.proofs.Longest.{taken, here, leaf_is_the, leaf_some, leaf_none, the_some, the_none, pair_none, pair_stop, not_begun, longest_by, none_by, pair_some, separated_some, choice_left, choice_right, choice_none, optional_some, optional_none, shape_some, listed_some, listed_none}
 
 module _ (toks : List Terminal) where
   layer : (x : Ty-F Ty) (a : ℕ) → ty toks (roll-Ty x) a ≡ type_layer toks (map-Ty Ty Step (ty toks) x) a
@@ -86,13 +86,10 @@ module _ (toks : List Terminal) where
   pub ty_none : (a : ℕ) → None ≡ the toks k.Void a → None ≡ the toks k.IntType a → None ≡ the toks k.Ptr a → None ≡ the toks k.Local a → None ≡ the toks k.LeftBracket a → None ≡ the toks k.LeftBrace a → None ≡ the toks k.Less a → Longest (ty toks) a None
   ty_none a h1 h2 h3 h4 h5 h6 h7 = all_none a (leaf_none toks k.Void a h1) (leaf_none toks k.IntType a h2) (leaf_none toks k.Ptr a h3) (leaf_none toks k.Local a h4) (pair_stop (leaf_of k.LeftBracket) count_part a (leaf_none toks k.LeftBracket a h5)) (pair_stop (leaf_of k.LeftBrace) listed_part a (leaf_none toks k.LeftBrace a h6)) (pair_stop (leaf_of k.Less) brace_part a (leaf_none toks k.Less a h7))
 
-  here : (t : Terminal) (a b : ℕ) → Some b ≡ the toks t a → At toks (firsts (t ∷ [])) a
-  here t a b h = inl ((when_true (stands toks t a) (suc a) b (sym h)).0, tt)
-
   -- ---- a type that begins with a bracket
   module _ (a count : ℕ) (h : Some count ≡ the toks k.LeftBracket a) where
     abbrev seen : At toks (firsts (k.LeftBracket ∷ [])) a
-    seen = here k.LeftBracket a count h
+    seen = here toks k.LeftBracket a count h
 
     array_stop : Longest (array toks) a None → Longest (ty toks) a None
     array_stop stop =
@@ -130,7 +127,7 @@ module _ (toks : List Terminal) where
   -- ---- a type that begins with a brace
   module _ (a first : ℕ) (h : Some first ≡ the toks k.LeftBrace a) where
     abbrev seen_brace : At toks (firsts (k.LeftBrace ∷ [])) a
-    seen_brace = here k.LeftBrace a first h
+    seen_brace = here toks k.LeftBrace a first h
 
     struct_stop : Longest (struct toks) a None → Longest (ty toks) a None
     struct_stop stop =
@@ -147,7 +144,7 @@ module _ (toks : List Terminal) where
   -- ---- a type that begins with `<`
   module _ (a brace : ℕ) (h : Some brace ≡ the toks k.Less a) where
     abbrev seen_less : At toks (firsts (k.Less ∷ [])) a
-    seen_less = here k.Less a brace h
+    seen_less = here toks k.Less a brace h
 
     packed_stop : Longest (packed toks) a None → Longest (ty toks) a None
     packed_stop stop =

@@ -65,6 +65,7 @@ pub fn attach(toks: &[Terminal], at: u32) -> Option<(Attach, u32)>
     Some((Attach { kind, node }, next))
 }
 
+/// Whether the terminal opens or closes parentheses.
 fn is_parenthesis(terminal: Terminal) -> bool
     ensures { result ≡ among (k.LeftParen ∷ k.RightParen ∷ []) terminal }
 {

@@ -203,36 +203,38 @@ fn leaves_a_damaged_alignment(rt: HostRuntime) {
 }
 
 #[test]
-fn reads_attributes_of_a_group(rt: HostRuntime) {
+fn reads_numbers_of_a_group(rt: HostRuntime) {
     let alloc = rt.alloc();
-    let toks = terminals(
-        &rt,
-        alloc,
-        b"nounwind align=16 uwtable=2 memory(none) \"a\"=\"b\" f= g",
-    );
+    let toks = terminals(&rt, alloc, b"nounwind align=16 uwtable=2 f= g");
     assert!(&rt; toks.len() <= MAX_BYTES);
     let (found, next) = gattrs(alloc, toks.as_slice(), 0).expect(&rt, "memory");
-    assert_eq!(&rt; next, 15);
+    assert_eq!(&rt; next, 8);
     let [
         Gattr::Fattr(Fattr::Word(0)),
         Gattr::Align { word: 1, value: 3 },
         Gattr::Word { word: 4, value: 6 },
-        Gattr::Fattr(Fattr::Bracket { word: 7, .. }),
-        Gattr::Fattr(
-            Fattr::Str {
-                key: 11,
-                value: Some(13),
-            },
-        ),
-        Gattr::Fattr(Fattr::Word(14)),
+        Gattr::Fattr(Fattr::Word(7)),
     ] = found.as_slice()
     else {
         panic!(&rt; "other attributes");
     };
-    let toks = terminals(&rt, alloc, b"align 8");
-    assert!(&rt; toks.len() <= MAX_BYTES);
-    let (found, next) = gattrs(alloc, toks.as_slice(), 0).expect(&rt, "memory");
-    assert_eq!(&rt; (found.len(), next), (0, 0));
+}
+
+#[test]
+fn counts_attributes_of_a_group(rt: HostRuntime) {
+    let alloc = rt.alloc();
+    for (text, count, place) in [
+        (b"memory(none) \"a\"=\"b\" \"c\" }".as_slice(), 3, 8),
+        (b"f align 8", 1, 1),
+        (b"f align(8)", 1, 1),
+        (b"align=x", 0, 0),
+        (b"}", 0, 0),
+    ] {
+        let toks = terminals(&rt, alloc, text);
+        assert!(&rt; toks.len() <= MAX_BYTES);
+        let (found, next) = gattrs(alloc, toks.as_slice(), 0).expect(&rt, "memory");
+        assert_eq!(&rt; (found.len(), next), (count, place), "in {text:?}");
+    }
 }
 
 #[test]

@@ -1,9 +1,9 @@
-use Rattle.std.proofs.Common.{rules, ◌≡◌, ◌≤◌, ◌+◌, ◌-◌, ◌*◌, ◌++◌, [], ◌∷◌, length, sym, subst, refl, arith}
+use Rattle.std.proofs.Common.{rules, ◌≡◌, ◌++◌, [], ◌∷◌, sym, subst, refl, arith}
 use Rattle.ir_tree.specs.Steps.{Longest}
 use Rattle.ir_tree.specs.Attributes.{inner}
 use Rattle.ir_tree.proofs.ClearAttributes.{inner_of}
 use Rattle.ir_parse_parts.proofs.Longest.{Reached, ends, reached_next, reached_all}
-use Rattle.ir_parse_parts.proofs.LongestAttributes.{inner_token, inner_none, inner_no_close, inner_ends}
+use Rattle.ir_parse_parts.proofs.LongestAttributes.{inner_token, inner_no_close, inner_ends}
 use Rattle.ir_parse_parts.proofs.attributes.+inner.Goals as goal
 
 pub inner-returns-in-Some : goal.inner-returns-in-Some

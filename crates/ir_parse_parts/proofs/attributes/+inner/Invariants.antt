@@ -1,4 +1,4 @@
-use Rattle.std.proofs.Common.{◌≡◌, ◌+◌, ◌-◌, ◌*◌, ◌≤◌, length}
+use Rattle.std.proofs.Common.{◌+◌, ◌-◌, ◌*◌, ◌≤◌, length}
 use Rattle.ir_tree.specs.Attributes.{inner}
 use Rattle.ir_parse_parts.proofs.Longest.{Reached}
 use Rattle.ir_parse_parts.proofs.attributes.+inner.Given as goal
