@@ -84,14 +84,17 @@ module _ (toks : List Terminal) where
   Begun k.LandingPad = λ a c. Unit {0}
   Begun other = λ a c. ⊥
 
+  -- ---- the token that stands at a place
   same_token : (t t' : Terminal) → is t t' ≡ true → t ≡ t'
   same_token t t' e = same_true the_type tt t t' e
 
+  -- where a terminal stands it is the token
   stands_token : (t : Terminal) (a : ℕ) → stands toks t a ≡ true → slice_get toks a ≡ Some t
   stands_token t a e =
       let s = token_seen toks (among (t ∷ [])) a e in
       s.1.0 ∙ ap Some (sym (same_token t s.0 (⊎_elim (λ h. h) (λ h. absurd (falls h)) (one (is t s.0) false s.1.1))))
 
+  -- where one of two stands it is one of them
   either_stands : (t t' : Terminal) (a : ℕ) → sees toks (among (t ∷ t' ∷ [])) a ≡ true → (slice_get toks a ≡ Some t) ⊎ (slice_get toks a ≡ Some t')
   either_stands t t' a e =
       let s = token_seen toks (among (t ∷ t' ∷ [])) a e in
@@ -107,11 +110,13 @@ module _ (toks : List Terminal) where
   leaf_here : (set : List Terminal) (a : ℕ) → one_of toks set a a ≡ any_of toks set a
   leaf_here set a = ap (λ x. when (x && sees toks (among set) a) (suc a)) (eq-eqb a a refl)
 
+  -- and ends behind the token
   leaf_ends : (set : List Terminal) (x a b first : ℕ) → one_of toks set x a ≡ Some b → Some first ≡ any_of toks set a → b ≡ first
   leaf_ends set x a b first e h =
       let f = when_true (eqb x a && sees toks (among set) a) (suc a) b e in
       f.1 ∙ sym (when_true (sees toks (among set) a) (suc a) first (sym h)).1
 
+  -- a call begins with its tail word or with `call`
   call_token : (x : Call) (a c : ℕ) → call toks x a ≡ Some c → (slice_get toks a ≡ Some k.Tail) ⊎ (slice_get toks a ≡ Some k.Call)
   call_token x a c e =
       let h = moves toks (call_of toks).first a c (((call_of toks).at a).opens x c e) in
@@ -120,6 +125,7 @@ module _ (toks : List Terminal) where
       (λ l. ⊎_elim (λ l. inr (stands_token k.Call a l.0)) (λ l. absurd l) l)
       h.1
 
+  -- what an instruction from a to c begins with
   abbrev Opening : ℕ → ℕ → Type 0
   Opening a c = (t : Terminal) × ((slice_get toks a ≡ Some t) × Begun t a c)
 
@@ -136,6 +142,7 @@ module _ (toks : List Terminal) where
       let b = tells (x, e) in
       ⊎_elim (λ h. (t, (h, b.0))) (λ h. (t', (h, b.1))) (either_stands t t' a (leaf_stands (t ∷ t' ∷ []) x.0 a s.0 s.1.0))
 
+  -- each production of instructions by its first token: the only place where all of them are gone through
   begun : (u : Instr) (a c : ℕ) → instr toks u a ≡ Some c → Opening a c
   begun (instr_is.Binop op flags kind left right) a c e = opening_either k.ConstBinop k.Binop binop_parts (op, (flags, (kind, (left, (tt, right))))) a c e (λ b. (b, b))
   begun (instr_is.Icmp x) a c e = opening k.Icmp icmp_parts (x.op, (x.flags, (x.pred, (x.ty, (x.left, (tt, x.right)))))) a c e (λ b. b)
@@ -160,6 +167,7 @@ module _ (toks : List Terminal) where
 
   -- ---- the rest of an instruction behind its first token
   module _ {U : Type 0} {q : U → Step} (make : ℕ × U → Instr) (a first : ℕ) where
+    -- where a leaf of these terminals stands and only instructions with this rest begin so
     behind_leaf : (set : List Terminal) → Some first ≡ any_of toks set a → ((x : ℕ × U) (c : ℕ) → pair (one_of toks set) q x a ≡ Some c → instr toks (make x) a ≡ Some c) → ((u : Instr) (c : ℕ) → instr toks u a ≡ Some c → Fits (pair (one_of toks set) q) a c) → Remains (instr toks) a q first (λ u. make (a, u))
     behind_leaf set h fits only = record {
       fits = λ u c e. fits (a, u) c (taken (one_of toks set a a) first (q u) (Some c) (leaf_here set a ∙ sym h) e);
@@ -212,6 +220,7 @@ module _ (toks : List Terminal) where
   unfolding sees
   sees_at set t a h = ap (λ o. seen (among set) o) h
 
+  -- a token that is none of these is not one of them
   absent : (set : List Terminal) (t : Terminal) (a : ℕ) → None ≡ any_of toks set a → among set t ≡ true → slice_get toks a ≡ Some t → ⊥
   absent set t a n one' h = nothing (suc a) (n ∙ ap (λ x. when x (suc a)) (sees_at set t a h ∙ one'))
 
@@ -222,6 +231,7 @@ module _ (toks : List Terminal) where
       (no_alloca : None ≡ the toks k.Alloca a) (no_load : None ≡ the toks k.Load a)
       (no_store : None ≡ the toks k.Store a) (no_gep : None ≡ the toks k.GetElementPtr a)
       (no_landing : None ≡ the toks k.LandingPad a) where
+    -- of what may begin an instruction, a call is left
     only_call : (c : ℕ) (t : Terminal) → slice_get toks a ≡ Some t → Begun t a c → Fits (call toks) a c
     only_call c k.ConstBinop h b = absurd (absent (k.ConstBinop ∷ k.Binop ∷ []) k.ConstBinop a no_binop refl h)
     only_call c k.Binop h b = absurd (absent (k.ConstBinop ∷ k.Binop ∷ []) k.Binop a no_binop refl h)

@@ -1,5 +1,5 @@
 -- The longest operation on values, from its parts.
-use Rattle.std.proofs.Common.{◌≡◌, ℕ, false, ◌<◌, ◌≤◌, List, [], ◌∷◌, length, None, Some, refl}
+use Rattle.std.proofs.Common.{◌≡◌, ℕ, false, ◌≤◌, List, [], ◌∷◌, None, Some, refl}
 use Rattle.ir_tree.specs.declared.terminal.Terminal.{Terminal}
 use Rattle.ir_tree.specs.declared.terminal.Terminal.TheVariants as k
 use Rattle.ir_tree.specs.declared.types.Ty.{Ty}
@@ -13,7 +13,7 @@ use Rattle.ir_tree.specs.Types.{ty}
 use Rattle.ir_tree.specs.Constants.{iflag, gepflag}
 use Rattle.ir_tree.specs.Values.{value, tvalue}
 use Rattle.ir_tree.specs.Instructions.{arm, instr}
-use Rattle.ir_tree.proofs.Clear.{pair, moves, split}
+use Rattle.ir_tree.proofs.Clear.{pair, split}
 use Rattle.ir_tree.proofs.Known.{Known, leaf_of, the_of, pair_of, many_of, some_of, next_of, listed_of}
 use Rattle.ir_tree.proofs.ClearTypes.{ty_of}
 use Rattle.ir_tree.proofs.ClearConstants.{iflag_of, gepflag_known}
@@ -21,7 +21,6 @@ use Rattle.ir_tree.proofs.ClearValues.{value_of, tvalue_of}
 use Rattle.ir_tree.proofs.ClearInstructions.{arm_of}
 use Rattle.ir_parse_parts.specs.Parts.{any_of}
 use Rattle.ir_parse_parts.proofs.Longest.{leaf_some, leaf_none, the_some, the_none, pair_some, pair_stop}
-use Rattle.ir_parse_parts.proofs.LongestTypes.{the_moves}
 use Rattle.ir_parse_body.specs.declared.operations.Sides.{Sides}
 use Rattle.ir_parse_body.specs.Parts.{operands}
 use Rattle.ir_parse_body.proofs.Remains.{Remains, rest_none, rest_some, then_rest, pair_rest, comma_rest, next_rest}
@@ -244,12 +243,6 @@ module _ (toks : List Terminal) where
   pub arms_all : (a m b : ℕ) (t : Arm) (ts : List Arm) → Longest (arm toks) a (Some (t, m)) → Longest (many (next toks (arm toks))) m (Some (ts, b)) → Longest (listed toks (arm toks)) a (Some (t ∷ ts, b))
   arms_all a m b t ts l rest = listed_some (arm toks) a b t ts (pair_some (arm_of toks) (many_of next_arm_of refl) refl a m b t ts l rest)
 
-  -- an arm behind a comma ends behind it, within the tokens
-  pub next_arm_ends : (a n : ℕ) (t : Arm) → Longest (next toks (arm toks)) a (Some (t, n)) → (a < n) × (n ≤ length toks)
-  next_arm_ends a n t l =
-      let s = split (the toks k.Comma a) (arm toks t) n l.0 in
-      ((moves toks next_arm_of.first a n ((next_arm_of.at a).opens t n l.0)).0, ((arm_of toks).at s.0).within t n s.1.1 (the_moves toks k.Comma a s.0 s.1.0).1)
-
   module _ (a first : ℕ) (h : Some first ≡ the toks k.Phi a) where
     pub phi_no_type : Longest (ty toks) first None → Longest (instr toks) a None
     phi_no_type n = rest_none (phi_rest toks a first h) (pair_stop (ty_of toks) (listed_of (arm_of toks) refl) first n)
@@ -267,11 +260,6 @@ module _ (toks : List Terminal) where
   -- ---- getelementptr
   abbrev pub next_tvalue_of : Known toks false (next toks (tvalue toks))
   next_tvalue_of = next_of (tvalue_of toks)
-
-  pub next_tvalue_ends : (a n : ℕ) (t : Tvalue) → Longest (next toks (tvalue toks)) a (Some (t, n)) → (a < n) × (n ≤ length toks)
-  next_tvalue_ends a n t l =
-      let s = split (the toks k.Comma a) (tvalue toks t) n l.0 in
-      ((moves toks next_tvalue_of.first a n ((next_tvalue_of.at a).opens t n l.0)).0, ((tvalue_of toks).at s.0).within t n s.1.1 (the_moves toks k.Comma a s.0 s.1.0).1)
 
   abbrev operands_part : Known toks false (some (next toks (tvalue toks)))
   operands_part = some_of next_tvalue_of refl

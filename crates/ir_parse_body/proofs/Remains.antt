@@ -1,12 +1,14 @@
--- What is left of a production once its first part was read.
-use Rattle.std.proofs.Common.{◌≡◌, ℕ, Bool, true, false, List, None, Some, ◌⊎◌, inl, inr, ⊎_elim, sym, ap, ◌∙◌, subst, arith}
+-- What is left of a production once its first part was read. A parser reads the parts in turn, and each part leaves less of the
+-- production; where a part is missing no tree fits, and where nothing is left the tree is whole.
+use Rattle.std.proofs.Common.{◌≡◌, ℕ, ◌<◌, ◌≤◌, Bool, true, false, List, length, None, Some, ⊎_elim, sym, ap, ◌∙◌, subst, arith}
 use Rattle.ir_tree.specs.declared.terminal.Terminal.{Terminal}
 use Rattle.ir_tree.specs.declared.terminal.Terminal.TheVariants as k
 use Rattle.ir_tree.specs.Steps.{Step, the, next, Longest}
 use Rattle.ir_tree.proofs.Looks.{apart, at_clash}
-use Rattle.ir_tree.proofs.Clear.{pair, choice, split, some_same, then_then, moves}
+use Rattle.ir_tree.proofs.Clear.{pair, split, some_same, then_then, moves}
 use Rattle.ir_tree.proofs.Known.{Known, next_of}
 use Rattle.ir_parse_parts.proofs.Longest.{taken}
+use Rattle.ir_parse_parts.proofs.LongestTypes.{the_moves}
 
 -- a tree of q from b is the rest of a tree of p from a, which `make` puts together
 pub record Remains {T U : Type 0} (p : T → Step) (a : ℕ) (q : U → Step) (b : ℕ) (make : U → T) : Type 0 where
@@ -57,21 +59,12 @@ comma_rest toks p q a = record {
 }
 
 module _ {toks : List Terminal} {T U : Type 0} {p : T → Step} {q : U → Step} (of_p : Known toks false p) (of_q : Known toks false q) (told : apart of_p.more of_q.first ≡ true) where
+  -- the rest behind a comma and a tree
   pub next_rest : {a n : ℕ} {t : T} → Longest (next toks p) a (Some (t, n)) → Remains (pair (λ (_ : Unit {0}). the toks k.Comma) (pair p q)) a q n (λ u. (tt, (t, u)))
   next_rest {a} l = then_rest (comma_rest toks p q a) (pair_rest (next_of of_p) of_q told l)
 
--- ---- one of two
-module _ {T U : Type 0} {p : T → Step} {q : U → Step} {a : ℕ} where
-  pub not_first : Longest p a None → Remains (choice p q) a q a inr
-  not_first stop = record { fits = λ u c e. e; only = go }
-    where
-      go : (x : T ⊎ U) (c : ℕ) → choice p q x a ≡ Some c → (u : U) × (q u a ≡ Some c)
-      go (inl t) c e = absurd (stop t c e)
-      go (inr u) c e = (u, e)
-
-  pub not_second : Longest q a None → Remains (choice p q) a p a inl
-  not_second stop = record { fits = λ u c e. e; only = go }
-    where
-      go : (x : T ⊎ U) (c : ℕ) → choice p q x a ≡ Some c → (t : T) × (p t a ≡ Some c)
-      go (inl t) c e = (t, e)
-      go (inr u) c e = absurd (stop u c e)
+-- a tree behind a comma ends behind the comma, within the tokens
+pub next_ends : {toks : List Terminal} {T : Type 0} {p : T → Step} → Known toks false p → (a n : ℕ) (t : T) → Longest (next toks p) a (Some (t, n)) → (a < n) × (n ≤ length toks)
+next_ends {toks} {p = p} of_p a n t l =
+    let s = split (the toks k.Comma a) (p t) n l.0 in
+    ((moves toks (next_of of_p).first a n (((next_of of_p).at a).opens t n l.0)).0, (of_p.at s.0).within t n s.1.1 (the_moves toks k.Comma a s.0 s.1.0).1)

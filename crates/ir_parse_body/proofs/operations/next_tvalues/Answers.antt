@@ -3,6 +3,8 @@ use Rattle.std.proofs.lemmas.List.{append_assoc}
 use Rattle.ir_tree.specs.Steps.{Longest, next, some}
 use Rattle.ir_tree.specs.Values.{tvalue}
 use Rattle.ir_parse_parts.proofs.Longest.{reached_first, reached_next, reached_all, some_some, some_none}
+use Rattle.ir_tree.proofs.ClearValues.{tvalue_of}
+use Rattle.ir_parse_body.proofs.Remains.{next_ends}
 use Rattle.ir_parse_body.proofs.LongestOperations as op
 use Rattle.ir_parse_body.proofs.operations.next_tvalues.Goals as goal
 
@@ -14,7 +16,7 @@ loop-found-init c = ([], (search rules, reached_first (next c.args.toks.now (tva
 
 pub loop-found-smaller : goal.loop-found-smaller
 loop-found-smaller c =
-    let l = op.next_tvalue_ends c.args.toks.now c.loop-found.place c.in-Some-2.next c.in-Some-2.of (subst (Longest (next c.args.toks.now (tvalue c.args.toks.now)) c.loop-found.place) c.in-Some-2.is c.in_ok-of.ensures) in
+    let l = next_ends (tvalue_of c.args.toks.now) c.loop-found.place c.in-Some-2.next c.in-Some-2.of (subst (Longest (next c.args.toks.now (tvalue c.args.toks.now)) c.loop-found.place) c.in-Some-2.is c.in_ok-of.ensures) in
     omega (arith, l.0, l.1)
 
 pub loop-found-preserved : goal.loop-found-preserved
