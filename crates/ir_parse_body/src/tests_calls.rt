@@ -3,7 +3,6 @@ use crate::landing::landing_pad;
 use ir_parse_parts::the;
 use ir_token::{MAX_BYTES, tokens};
 use ir_tree::{Call, Cc, Clause, Ftype, Instr, Invoke, Leaf, Terminal, Ty, terminal_of};
-use sqlite_items::Items;
 use std::alloc::Global;
 use std::process::Abort;
 
@@ -99,12 +98,12 @@ fn reads_invokes(rt: HostRuntime) {
 }
 
 /// The place of `cleanup`, where it stands, and the clauses of a landing pad.
-fn parts(instr: Instr) -> Option<(Option<Leaf>, Items<Clause>)> {
+fn parts(instr: &Instr) -> Option<(Option<Leaf>, &[Clause])> {
     match instr {
         Instr::Cleanup {
             cleanup, clauses, ..
-        } => Some((Some(cleanup), clauses)),
-        Instr::LandingPad { clauses, .. } => Some((None, clauses)),
+        } => Some((Some(*cleanup), clauses.as_slice())),
+        Instr::LandingPad { clauses, .. } => Some((None, clauses.as_slice())),
         _ => None,
     }
 }
@@ -117,10 +116,10 @@ fn reads_landing_pads(rt: HostRuntime) {
         (b"landingpad { ptr, i32 } catch ptr @t filter ptr null", None, &[6, 9], 12),
     ] {
         let (found, next) = read_landing_pad(&rt, rt.alloc(), text).expect(&rt, "a landing pad");
-        let (cleanup, clauses) = parts(found).expect(&rt, "a landing pad");
+        let (cleanup, clauses) = parts(&found).expect(&rt, "a landing pad");
         assert_eq!(rt; cleanup, place, "in {text:?}");
         assert_eq!(rt; clauses.len(), words.len(), "in {text:?}");
-        for (clause, word) in clauses.as_slice().iter().zip(words.iter()) {
+        for (clause, word) in clauses.iter().zip(words.iter()) {
             assert_eq!(rt; clause.word, *word, "in {text:?}");
         }
         assert_eq!(rt; next, end, "in {text:?}");
