@@ -12,17 +12,14 @@ use Rattle.ir_tree.specs.declared.blocks.Last.{Last}
 use Rattle.ir_tree.specs.declared.blocks.Last.TheVariants as last_is
 use Rattle.ir_tree.specs.declared.blocks.First.{First}
 use Rattle.ir_tree.specs.declared.blocks.Block.{Block}
-use Rattle.ir_tree.specs.declared.blocks.Body.{Body}
-use Rattle.ir_tree.specs.Steps.{Step, the, leaf, many, optional, next, Longest}
-use Rattle.ir_tree.specs.Attributes.{attach}
+use Rattle.ir_tree.specs.Steps.{Step, the, leaf, many, optional, Longest}
 use Rattle.ir_tree.specs.Instructions.{instr, invoke, term}
 use Rattle.ir_tree.specs.Blocks.{result, line, last, first, block, body}
-use Rattle.ir_tree.proofs.Looks.{At}
 use Rattle.ir_tree.proofs.Clear.{pair, choice, moves}
-use Rattle.ir_tree.proofs.Known.{Known, firsts, leaf_of, pair_of, choice_of, optional_of, many_of}
+use Rattle.ir_tree.proofs.Known.{Known, firsts, leaf_of, pair_of, optional_of, many_of}
 use Rattle.ir_tree.proofs.ClearInstructions.{instr_of, invoke_of, term_of}
 use Rattle.ir_tree.proofs.ClearBlocks.{attached, attached_of, ended, ended_of, line_of, last_of, first_of, block_of}
-use Rattle.ir_parse_parts.proofs.Longest.{turned, leaf_some, leaf_none, pair_some, pair_stop, choice_none, not_begun}
+use Rattle.ir_parse_parts.proofs.Longest.{turned, leaf_some, leaf_none, pair_some, pair_stop, not_begun}
 use Rattle.ir_parse_body.specs.Blocks.{behind, inside}
 use Rattle.ir_parse_body.proofs.Sequences.{twice, shaped, pair_by, choice_left, choice_right, before_of, seen, led_by}
 

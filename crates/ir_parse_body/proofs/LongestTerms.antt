@@ -11,7 +11,6 @@ use Rattle.ir_tree.specs.Steps.{Step, the, leaf, many, stands, where_not, Longes
 use Rattle.ir_tree.specs.Types.{ty}
 use Rattle.ir_tree.specs.Values.{tvalue}
 use Rattle.ir_tree.specs.Instructions.{target, case, term}
-use Rattle.ir_tree.proofs.Looks.{At}
 use Rattle.ir_tree.proofs.Clear.{pair, choice, moves}
 use Rattle.ir_tree.proofs.Known.{Known, firsts, leaf_of, the_of, pair_of, choice_of, many_of}
 use Rattle.ir_tree.proofs.ClearTypes.{ty_of}

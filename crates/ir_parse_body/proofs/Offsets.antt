@@ -1,5 +1,5 @@
 -- How many tokens a text has, and where they stand.
-use Rattle.std.proofs.Common.{◌≡◌, ℕ, ◌+◌, ◌<◌, ◌≤◌, List, [], ◌∷◌, length, arith}
+use Rattle.std.proofs.Common.{ℕ, ◌+◌, ◌≤◌, List, [], ◌∷◌, length, arith}
 use Rattle.ir_token.specs.declared.token.Token.{Token}
 use Rattle.ir_token.specs.Bytes.{Bytes}
 use Rattle.ir_token.specs.Lists.{Reaches, AreTokens}

@@ -1,13 +1,13 @@
 -- The longest tree of a production from what was read of its parts: a token before them or behind them, one of two productions, and
 -- a tree made of them.
-use Rattle.std.proofs.Common.{◌≡◌, ℕ, suc, ◌<◌, ◌≤◌, Bool, true, false, ◌&&◌, List, [], ◌∷◌, ◌++◌, length, Option, None, Some, ◌⊎◌, inl, inr, ⊎_elim, refl, sym, ap, ◌∙◌, subst, arith}
+use Rattle.std.proofs.Common.{◌≡◌, ℕ, suc, ◌<◌, ◌≤◌, Bool, true, false, ◌&&◌, List, [], ◌∷◌, length, Option, None, Some, ◌⊎◌, inl, inr, ⊎_elim, refl, sym, ap, ◌∙◌, subst, arith}
 use Rattle.ir_tree.specs.declared.terminal.Terminal.{Terminal}
-use Rattle.ir_tree.specs.Steps.{Step, ◌⨾◌, among, stands, when, unless, the, leaf, many, where_not, Longest}
+use Rattle.ir_tree.specs.Steps.{Step, ◌⨾◌, stands, when, unless, the, leaf, where_not, Longest}
 use Rattle.std.specs.List.{list_all}
 use Rattle.ir_tree.proofs.Looks.{Look, passes, At, apart, falls, seen_within}
 use Rattle.ir_tree.proofs.Clear.{pair, choice, split, some_same, when_true, unless_false, moves}
 use Rattle.ir_tree.proofs.Known.{Known, firsts, leaf_of, the_of, pair_of, shape_of}
-use Rattle.ir_parse_parts.proofs.Longest.{turned, nothing, taken, leaf_some, the_some, the_none, pair_some, pair_none, pair_stop}
+use Rattle.ir_parse_parts.proofs.Longest.{turned, nothing, taken, leaf_some, the_some, the_none, pair_some, pair_none}
 
 -- ---- what was read, made into another tree
 pub twice : {T U V : Type 0} (p : V → Step) (f : U → V) (g : T → U) (a : ℕ) (r : Option (T × ℕ)) → Longest p a (turned f (turned g r)) → Longest p a (turned (λ x. f (g x)) r)

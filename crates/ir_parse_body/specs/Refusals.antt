@@ -18,6 +18,6 @@ abbrev pub offset : Bytes → List Token → ℕ → ℕ
 offset b ts at = begin b (slice_get ts at)
 
 -- no body fits from this token, which begins at the byte that is named
-abbrev pub IsTrue : Bytes → List Token → ℕ → SyntaxRefusal → Type 0
-IsTrue b ts at (Syntax byte) = Longest (body (terminals b ts)) at None × (byte ≡ offset b ts at)
-IsTrue b ts at NoMemory = Unit {0}
+abbrev pub IsReason : Bytes → List Token → ℕ → SyntaxRefusal → Type 0
+IsReason b ts at (Syntax byte) = Longest (body (terminals b ts)) at None × (byte ≡ offset b ts at)
+IsReason b ts at NoMemory = Unit {0}

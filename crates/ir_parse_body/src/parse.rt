@@ -52,7 +52,7 @@ pub fn parse_body(
     requires shallow { nesting_of text.now toks.now ≤ 256 }
     requires within { at ≤ length toks.now }
     ensures fits { IfOk result (λ r. Longest (production.body (grammar.terminals text.now toks.now)) at (Some r)) }
-    ensures syntax { IfErr result (λ refusal. spec.IsTrue text.now toks.now at refusal) }
+    ensures syntax { IfErr result (λ refusal. spec.IsReason text.now toks.now at refusal) }
 {
     let terminals = terminals(alloc, toks, text)?;
     match body(alloc, terminals.as_slice(), at)? {

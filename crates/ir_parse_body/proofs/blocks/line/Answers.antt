@@ -1,4 +1,4 @@
-use Rattle.std.proofs.Common.{None, Some, sym, subst}
+use Rattle.std.proofs.Common.{Some, sym, subst}
 use Rattle.ir_tree.specs.Steps.{Longest}
 use Rattle.ir_tree.specs.Instructions.{instr}
 use Rattle.ir_parse_body.proofs.LongestBlocks.{line_opaque, line_no_instr, line_instr}

@@ -1,8 +1,6 @@
 use Rattle.std.proofs.Common.{None, Some, sym, subst}
 use Rattle.ir_tree.specs.Steps.{Longest}
 use Rattle.ir_tree.specs.Values.{tvalue}
-use Rattle.ir_tree.specs.Instructions.{target}
-use Rattle.ir_parse_body.specs.Terms.{targets}
 use Rattle.ir_parse_body.proofs.LongestTerms.{br_jump, br_no_value, br_targets}
 use Rattle.ir_parse_body.proofs.terms.br.Goals as goal
 
