@@ -109,11 +109,7 @@ pub(crate) fn invoke(
 }
 
 /// `[cc] rattr* (type | ftype) value`
-fn called(
-    alloc: Global,
-    toks: &[Terminal],
-    at: u32,
-) -> Result<Option<(Callee, u32)>, NoMemory>
+fn called(alloc: Global, toks: &[Terminal], at: u32) -> Result<Option<(Callee, u32)>, NoMemory>
     requires few { length toks.now < 2 ^ 32 }
     ensures { IfOk result (λ r. Longest (spec.called toks.now) at r) }
 {
@@ -150,11 +146,7 @@ fn convention(toks: &[Terminal], at: u32) -> (Option<Cc>, u32)
 }
 
 /// `[ftype]`
-fn parameters(
-    alloc: Global,
-    toks: &[Terminal],
-    at: u32,
-) -> Result<(Option<Ftype>, u32), NoMemory>
+fn parameters(alloc: Global, toks: &[Terminal], at: u32) -> Result<(Option<Ftype>, u32), NoMemory>
     requires few { length toks.now < 2 ^ 32 }
     ensures { IfOk result (λ r. Longest (optional (types.ftype toks.now)) at (Some r)) }
 {
@@ -165,11 +157,7 @@ fn parameters(
 }
 
 /// `'(' arg,* ')' (fattr | Group)*`
-fn passed(
-    alloc: Global,
-    toks: &[Terminal],
-    at: u32,
-) -> Result<Option<(Arguments, u32)>, NoMemory>
+fn passed(alloc: Global, toks: &[Terminal], at: u32) -> Result<Option<(Arguments, u32)>, NoMemory>
     requires few { length toks.now < 2 ^ 32 }
     ensures { IfOk result (λ r. Longest (spec.passed toks.now) at r) }
 {

@@ -32,23 +32,27 @@ fn a_body_has_blocks_up_to_the_token_behind_it(rt: HostRuntime) -> Result<(), Fa
     assert_eq!(rt; next, 13);
     assert_eq!(rt; body.first.label, Some(6));
     assert!(rt; body.first.lines.is_empty());
-    assert!(rt; matches!(
-        body.first.last,
-        Last::Term {
-            term: Term::Jump { op: 7, to: 9 },
-            ..
-        }
-    ));
+    assert!(rt;
+        matches!(
+            body.first.last,
+            Last::Term {
+                term: Term::Jump { op: 7, to: 9 },
+                ..
+            }
+        )
+    );
     assert_eq!(rt; body.blocks.len(), 1);
     let block = body.blocks.get(0).expect(&rt, "a second block");
     assert_eq!(rt; block.label, 10);
-    assert!(rt; matches!(
-        block.last,
-        Last::Term {
-            term: Term::RetVoid { op: 11 },
-            ..
-        }
-    ));
+    assert!(rt;
+        matches!(
+            block.last,
+            Last::Term {
+                term: Term::RetVoid { op: 11 },
+                ..
+            }
+        )
+    );
     Ok(())
 }
 
@@ -69,12 +73,17 @@ fn a_block_needs_a_terminator(rt: HostRuntime) -> Result<(), Fail> {
 
 #[test]
 fn lines_keep_names_and_attachments(rt: HostRuntime) -> Result<(), Fail> {
-    let text = b"  %a = freeze i1 %c, !x !0, !y !1\n  #dbg_value(i1 %a)\n  freeze i1 %a\n  unreachable, !dbg !2\n  #dbg_value(i1 %a)\n";
+    let text =
+        b"  %a = freeze i1 %c, !x !0, !y !1\n  #dbg_value(i1 %a)\n  freeze i1 %a\n  unreachable, !dbg !2\n  #dbg_value(i1 %a)\n";
     let block = first(&rt, rt.alloc(), text)?;
     assert_eq!(rt; block.lines.len(), 3);
-    let Some(Line::Instr {
-        result, attached, ..
-    }) = block.lines.get(0)
+    let Some(
+        Line::Instr {
+            result,
+            attached,
+            ..
+        },
+    ) = block.lines.get(0)
     else {
         return rt.panic("the first line is an instruction");
     };
@@ -161,6 +170,10 @@ fn terminators_are_told_by_their_tokens(rt: HostRuntime) {
         b"resume",
     ] {
         let refusal = first(&rt, rt.alloc(), text).err();
-        assert_eq!(rt; refusal, Some(SyntaxRefusal::Syntax { at: 0 }), "in {text:?}");
+        assert_eq!(rt;
+            refusal,
+            Some(SyntaxRefusal::Syntax { at: 0 }),
+            "in {text:?}"
+        );
     }
 }

@@ -101,7 +101,9 @@ fn reads_invokes(rt: HostRuntime) {
 fn parts(instr: &Instr) -> Option<(Option<Leaf>, &[Clause])> {
     match instr {
         Instr::Cleanup {
-            cleanup, clauses, ..
+            cleanup,
+            clauses,
+            ..
         } => Some((Some(*cleanup), clauses.as_slice())),
         Instr::LandingPad { clauses, .. } => Some((None, clauses.as_slice())),
         _ => None,
@@ -111,9 +113,19 @@ fn parts(instr: &Instr) -> Option<(Option<Leaf>, &[Clause])> {
 #[test]
 fn reads_landing_pads(rt: HostRuntime) {
     for (text, place, words, end) in [
-        (b"landingpad ptr cleanup".as_slice(), Some(2), [].as_slice(), 3),
+        (
+            b"landingpad ptr cleanup".as_slice(),
+            Some(2),
+            [].as_slice(),
+            3,
+        ),
         (b"landingpad ptr cleanup catch ptr null", Some(2), &[3], 6),
-        (b"landingpad { ptr, i32 } catch ptr @t filter ptr null", None, &[6, 9], 12),
+        (
+            b"landingpad { ptr, i32 } catch ptr @t filter ptr null",
+            None,
+            &[6, 9],
+            12,
+        ),
     ] {
         let (found, next) = read_landing_pad(&rt, rt.alloc(), text).expect(&rt, "a landing pad");
         let (cleanup, clauses) = parts(&found).expect(&rt, "a landing pad");
@@ -125,6 +137,9 @@ fn reads_landing_pads(rt: HostRuntime) {
         assert_eq!(rt; next, end, "in {text:?}");
     }
     for text in [b"landingpad ptr".as_slice(), b"landingpad ptr filter"] {
-        assert!(rt; read_landing_pad(&rt, rt.alloc(), text).is_none(), "in {text:?}");
+        assert!(rt;
+            read_landing_pad(&rt, rt.alloc(), text).is_none(),
+            "in {text:?}"
+        );
     }
 }
