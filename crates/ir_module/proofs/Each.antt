@@ -11,12 +11,12 @@ EachOf {X} n xs P = (k : ℕ) (x : X) → k < n → slice_get xs k ≡ Some x �
 
 pub one_more : {X : Type 0} → (P : ℕ → X → Type 0) (xs : List X) (i : ℕ) (x : X) → EachOf i xs P → slice_get xs i ≡ Some x → P i x → EachOf (i + 1) xs P
 one_more {X} P xs i x h e p k y l f = elim (eqb_tells k i) [
-    | inl (_, same) ↦
-        (let here : slice_get xs i ≡ Some y = subst (λ (n : ℕ). slice_get xs n ≡ Some y) same f in
-        let is : x ≡ y = cc in
-        subst (λ (n : ℕ). P n y) (sym same) (subst (λ (z : X). P i z) is p))
-    | inr (_, other) ↦ h k y (omega arith) f
-  ]
+  | inl (_, same) ↦
+      (let here : slice_get xs i ≡ Some y = subst (λ (n : ℕ). slice_get xs n ≡ Some y) same f in
+      let is : x ≡ y = cc in
+      subst (λ (n : ℕ). P n y) (sym same) (subst (λ (z : X). P i z) is p))
+  | inr (_, other) ↦ h k y (omega arith) f
+]
 
 pub each_of_all : {X : Type 0} → (P : ℕ → X → Type 0) (xs : List X) (n : ℕ) → EachOf n xs P → length xs ≤ n → Each xs P
 each_of_all P xs n h l k x e = let inside = slice_get_within xs k x e in h k x (omega arith) e
@@ -33,20 +33,20 @@ each_unmapped P v xs h k x e = h k (v x) (slice_get-map v xs k ∙ ap (option_ma
 -- what holds of each element holds of the first and of each of the others
 pub each_headed : {X : Type 0} → (Q : X → Type 0) (x : X) (xs : List X) → Each (x ∷ xs) (λ k y. Q y) ↔ (Q x × Each xs (λ k y. Q y))
 each_headed {X} Q x xs = (
-    λ h. (h 0 x refl, λ k y e. h (suc k) y e),
-    λ h. headed Q x xs h.0 h.1,
-  )
+  λ h. (h 0 x refl, λ k y e. h (suc k) y e),
+  λ h. headed Q x xs h.0 h.1,
+)
   where
-  headed : {X : Type 0} → (Q : X → Type 0) (x : X) (xs : List X) → Q x → Each xs (λ k y. Q y) → Each (x ∷ xs) (λ k y. Q y)
-  headed Q x xs q h zero y e = let is : x ≡ y = cc in subst Q is q
-  headed Q x xs q h (suc k) y e = h k y e
+    headed : {X : Type 0} → (Q : X → Type 0) (x : X) (xs : List X) → Q x → Each xs (λ k y. Q y) → Each (x ∷ xs) (λ k y. Q y)
+    headed Q x xs q h zero y e = let is : x ≡ y = cc in subst Q is q
+    headed Q x xs q h (suc k) y e = h k y e
 
 -- what holds of each number from `low` to before i, and of i, holds of each to before i + 1
 pub one_further : (P : ℕ → Type 0) (low i : ℕ) → ((k : ℕ) → low ≤ k → k < i → P k) → P i → (k : ℕ) → low ≤ k → k < i + 1 → P k
 one_further P low i h p k above below = elim (eqb_tells k i) [
-    | inl (_, same) ↦ subst P (sym same) p
-    | inr (_, other) ↦ h k above (omega arith)
-  ]
+  | inl (_, same) ↦ subst P (sym same) p
+  | inr (_, other) ↦ h k above (omega arith)
+]
 
 pub answered : {X : Type 0} → (P : ℕ → X → Type 0) (xs : List X) (n : ℕ) → EachOf n xs P → length xs ≤ n → IsTrue true ↔ Each xs P
 answered P xs n h l = (λ t. each_of_all P xs n h l, λ e. refl)

@@ -27,10 +27,7 @@ fn has_formed_bodies(m: &Module) -> bool
     requires { length m.now.blocks < 2 ^ 31 }
     ensures { IsTrue result ↔ HasFormedBodies m.now }
 {
-    are_funcs_formed(m)
-        && are_blocks_formed(m)
-        && are_segs_formed(m)
-        && are_values_formed(m)
+    are_funcs_formed(m) && are_blocks_formed(m) && are_segs_formed(m) && are_values_formed(m)
 }
 
 /// Whether a module is well formed: each number names a thing that is there and that names it back, and blocks,

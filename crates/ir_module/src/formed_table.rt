@@ -198,9 +198,7 @@ fn has_instrs(seg: &Seg) -> bool
 fn is_seg_formed_in(m: &Module, k: usize, seg: &Seg, block: &Block) -> bool
     ensures { IsTrue result ↔ each.IsSegFormedIn m.now k seg.now block.now }
 {
-    is_seg_of(block, k)
-        && has_instrs(seg)
-        && are_instrs_formed(m, block, k, seg.instrs.as_slice())
+    is_seg_of(block, k) && has_instrs(seg) && are_instrs_formed(m, block, k, seg.instrs.as_slice())
 }
 
 fn is_seg_formed(m: &Module, k: usize, seg: &Seg) -> bool

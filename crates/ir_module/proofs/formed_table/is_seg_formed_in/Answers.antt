@@ -6,14 +6,14 @@ use Rattle.ir_module.proofs.formed_table.is_seg_formed_in.Goals.{then-is_seg_of,
 
 pub returns-then-has_instrs : goal.returns-then-has_instrs
 returns-then-has_instrs c = (
-    λ t. elim c.if-is_seg_of.branch [
-      | then-is_seg_of w ↦ record {
-          place = c.is_seg_of.ensures.0 w.if-is_seg_of.true;
-          nonempty = w.has_instrs.ensures.0 cc;
-          instrs = subst (λ (xs : List Instr). Each xs (IsInstrFormed c.args.m.now c.args.block.now c.args.k (length xs))) c.as_slice.ensures (c.are_instrs_formed.ensures.0 t);
-        }
-      | else-is_seg_of w ↦ (let no : ⊥ = cc in absurd no)
-    ],
-    λ h. c.are_instrs_formed.ensures.1
+  λ t. elim c.if-is_seg_of.branch [
+    | then-is_seg_of w ↦ record {
+      place = c.is_seg_of.ensures.0 w.if-is_seg_of.true;
+      nonempty = w.has_instrs.ensures.0 cc;
+      instrs = subst (λ (xs : List Instr). Each xs (IsInstrFormed c.args.m.now c.args.block.now c.args.k (length xs))) c.as_slice.ensures (c.are_instrs_formed.ensures.0 t);
+    }
+    | else-is_seg_of w ↦ (let no : ⊥ = cc in absurd no)
+  ],
+  λ h. c.are_instrs_formed.ensures.1
       (subst (λ (xs : List Instr). Each xs (IsInstrFormed c.args.m.now c.args.block.now c.args.k (length xs))) (sym c.as_slice.ensures) h.instrs),
-  )
+)
