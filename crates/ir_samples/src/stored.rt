@@ -54,6 +54,20 @@ fn add_values(m: &mut Module) -> Result<(), NoMemory> {
     Ok(())
 }
 
+fn fill(alloc: Global, m: &mut Module) -> Result<(), NoMemory> {
+    m.globals.push(triple(alloc)?)?;
+    m.funcs.push(storing(alloc)?)?;
+    m.funcs.push(calling(alloc)?)?;
+    m.blocks.push(block(alloc, 0, b"0", 0, 1)?)?;
+    m.blocks.push(block(alloc, 1, b"0", 1, 3)?)?;
+    m.segs.push(store_and_return(alloc)?)?;
+    m.segs.push(call_with_alloca(alloc)?)?;
+    m.segs.push(call_with_global(alloc)?)?;
+    m.segs.push(seg(alloc, 1, ret(None))?)?;
+    add_values(m)?;
+    Ok(())
+}
+
 /// A function that stores through its parameter, and one that calls it with an alloca and with a global.
 ///
 /// ```text
@@ -71,15 +85,6 @@ fn add_values(m: &mut Module) -> Result<(), NoMemory> {
 /// ```
 pub fn stored_parameter(alloc: Global) -> Result<Module, NoMemory> {
     let mut m = empty_module(alloc)?;
-    m.globals.push(triple(alloc)?)?;
-    m.funcs.push(storing(alloc)?)?;
-    m.funcs.push(calling(alloc)?)?;
-    m.blocks.push(block(alloc, 0, b"0", 0, 1)?)?;
-    m.blocks.push(block(alloc, 1, b"0", 1, 3)?)?;
-    m.segs.push(store_and_return(alloc)?)?;
-    m.segs.push(call_with_alloca(alloc)?)?;
-    m.segs.push(call_with_global(alloc)?)?;
-    m.segs.push(seg(alloc, 1, ret(None))?)?;
-    add_values(&mut m)?;
+    fill(alloc, &mut m)?;
     Ok(m)
 }

@@ -63,9 +63,7 @@ fn each_sample_is_well_formed(rt: HostRuntime) -> Result<(), Fail> {
 }
 
 #[test]
-fn a_segment_ends_in_a_call_or_terminator_and_has_none_before(
-    rt: HostRuntime,
-) -> Result<(), Fail> {
+fn a_segment_ends_in_a_call_or_terminator_and_has_none_before(rt: HostRuntime) -> Result<(), Fail> {
     let alloc = rt.alloc();
     let mut m = leaf_and_caller(alloc)?;
     let first = instr(call(alloc, VOID, 0, &[])?);

@@ -2,9 +2,9 @@ use super::*;
 use attr_ids::{FuncId, NoMemory, SegId, Sequence, ValueId};
 use ir_module::{Def, Instr, Linkage, Module, Operand, Seg, Symbol, has_few, is_well_formed};
 use ir_samples::{
-    BlockRun, I32, PTR, VOID, block, call, caught_call, chosen_parameter,
-    definition, empty_module, func_name, icmp, info, instr, invoke, leaf_and_caller, named, param,
-    param_words, ret, seg, seg_of_two, store, stored_parameter, value, written,
+    BlockRun, I32, PTR, VOID, block, call, caught_call, chosen_parameter, definition, empty_module,
+    func_name, icmp, info, instr, invoke, leaf_and_caller, named, param, param_words, ret, seg,
+    seg_of_two, store, stored_parameter, value, written,
 };
 use std::alloc::Global;
 use std::test::Fail;
