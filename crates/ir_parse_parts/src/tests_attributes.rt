@@ -205,19 +205,34 @@ fn leaves_a_damaged_alignment(rt: HostRuntime) {
 #[test]
 fn reads_numbers_of_a_group(rt: HostRuntime) {
     let alloc = rt.alloc();
-    let toks = terminals(&rt, alloc, b"nounwind align=16 uwtable=2 f= g");
+    let toks = terminals(&rt, alloc, b"align=16 uwtable=2");
     assert!(&rt; toks.len() <= MAX_BYTES);
     let (found, next) = gattrs(alloc, toks.as_slice(), 0).expect(&rt, "memory");
-    assert_eq!(&rt; next, 8);
-    let [
-        Gattr::Fattr(Fattr::Word(0)),
-        Gattr::Align { word: 1, value: 3 },
-        Gattr::Word { word: 4, value: 6 },
-        Gattr::Fattr(Fattr::Word(7)),
-    ] = found.as_slice()
-    else {
-        panic!(&rt; "other attributes");
-    };
+    assert_eq!(&rt; next, 6);
+    assert!(&rt;
+        matches!(
+            found.as_slice(),
+            [
+                Gattr::Align { word: 0, value: 2 },
+                Gattr::Word { word: 3, value: 5 }
+            ]
+        )
+    );
+}
+
+#[test]
+fn reads_words_of_a_group(rt: HostRuntime) {
+    let alloc = rt.alloc();
+    let toks = terminals(&rt, alloc, b"nounwind f= g");
+    assert!(&rt; toks.len() <= MAX_BYTES);
+    let (found, next) = gattrs(alloc, toks.as_slice(), 0).expect(&rt, "memory");
+    assert_eq!(&rt; next, 2);
+    assert!(&rt;
+        matches!(
+            found.as_slice(),
+            [Gattr::Fattr(Fattr::Word(0)), Gattr::Fattr(Fattr::Word(1))]
+        )
+    );
 }
 
 #[test]
