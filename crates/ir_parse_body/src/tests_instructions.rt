@@ -43,7 +43,8 @@ fn reads_operations_of_two_values(rt: HostRuntime) {
         &[Binop, Gepflag, IntType, Local, Comma, Int],
         None,
     );
-    match read(&rt, alloc, &[Binop, Nuw, IntType, Local, Comma, Int, Comma]) {
+    let found = read(&rt, alloc, &[Binop, Nuw, IntType, Local, Comma, Int, Comma]);
+    match &found {
         Some(
             (
                 Instr::Binop {
@@ -56,7 +57,7 @@ fn reads_operations_of_two_values(rt: HostRuntime) {
                 end,
             ),
         ) => {
-            assert_eq!(rt; (op, kind, left, end), (0, 2, 3, 6));
+            assert_eq!(rt; (*op, *kind, *left, *end), (0, 2, 3, 6));
             assert!(rt; flags.as_slice() == [1].as_slice());
         }
         _ => assert!(rt; false, "an operation of two values"),
@@ -69,7 +70,8 @@ fn reads_comparisons(rt: HostRuntime) {
     assert_whole(&rt, alloc, &[Icmp, Pred, Ptr, Local, Comma, Null]);
     assert_whole(&rt, alloc, &[Icmp, Iflag, Pred, IntType, Local, Comma, Int]);
     assert_end(&rt, alloc, &[Icmp, IntType, Local, Comma, Int], None);
-    match read(&rt, alloc, &[Icmp, Iflag, Pred, IntType, Local, Comma, Int]) {
+    let found = read(&rt, alloc, &[Icmp, Iflag, Pred, IntType, Local, Comma, Int]);
+    match &found {
         Some((Instr::Icmp(icmp), _)) => {
             assert_eq!(rt; icmp.get().pred, 2);
             assert!(rt; icmp.get().flags.as_slice() == [1].as_slice());
@@ -84,7 +86,8 @@ fn reads_casts(rt: HostRuntime) {
     assert_whole(&rt, alloc, &[Cast, IntType, Local, To, IntType]);
     assert_whole(&rt, alloc, &[ConstCast, Iflag, IntType, Local, To, IntType]);
     assert_end(&rt, alloc, &[Cast, IntType, Local, IntType], None);
-    match read(&rt, alloc, &[Cast, IntType, Local, To, Ptr]) {
+    let found = read(&rt, alloc, &[Cast, IntType, Local, To, Ptr]);
+    match &found {
         Some(
             (
                 Instr::Cast {
@@ -94,7 +97,7 @@ fn reads_casts(rt: HostRuntime) {
                 },
                 end,
             ),
-        ) => assert_eq!(rt; (op, to, end), (0, 4, 5)),
+        ) => assert_eq!(rt; (*op, *to, *end), (0, 4, 5)),
         _ => assert!(rt; false, "a cast to a pointer"),
     }
 }
@@ -110,7 +113,8 @@ fn reads_select_and_freeze(rt: HostRuntime) {
         &[Select, IntType, Local, Comma, Ptr, Null],
         None,
     );
-    match read(&rt, alloc, &select) {
+    let found = read(&rt, alloc, &select);
+    match &found {
         Some((Instr::Select(select), _)) => match (&select.get().yes.ty, &select.get().no.ty) {
             (Ty::Ptr(yes), Ty::Ptr(no)) => assert_eq!(rt; (*yes, *no), (4, 7)),
             _ => assert!(rt; false, "two pointers"),
@@ -139,7 +143,8 @@ fn reads_arms_in_order(rt: HostRuntime) {
         RightBracket,
     ];
     assert_end(&rt, alloc, &phi, Some(13));
-    match read(&rt, alloc, &phi) {
+    let found = read(&rt, alloc, &phi);
+    match &found {
         Some((Instr::Phi { arms, .. }, _)) => match arms.as_slice() {
             [first, second] => assert_eq!(rt; (first.from, second.from), (5, 11)),
             _ => assert!(rt; false, "two arms"),
@@ -160,7 +165,8 @@ fn reads_allocas(rt: HostRuntime) {
     assert_end(&rt, alloc, &whole, Some(8));
     assert_end(&rt, alloc, &whole[..7], Some(5));
     assert_end(&rt, alloc, &[Alloca, IntType, Comma, Align, Int], Some(5));
-    match read(&rt, alloc, &whole) {
+    let found = read(&rt, alloc, &whole);
+    match &found {
         Some((Instr::Alloca(alloca), _)) => {
             assert_eq!(rt; alloca.get().align, Some(7));
             assert!(rt; alloca.get().count.is_some());
@@ -179,7 +185,8 @@ fn reads_loads(rt: HostRuntime) {
     ];
     assert_end(&rt, alloc, &whole, Some(9));
     assert_end(&rt, alloc, &whole[..8], Some(6));
-    match read(&rt, alloc, &whole) {
+    let found = read(&rt, alloc, &whole);
+    match &found {
         Some(
             (
                 Instr::Load {
@@ -189,7 +196,7 @@ fn reads_loads(rt: HostRuntime) {
                 },
                 _,
             ),
-        ) => assert_eq!(rt; (volatile, align), (Some(1), Some(8))),
+        ) => assert_eq!(rt; (*volatile, *align), (Some(1), Some(8))),
         _ => assert!(rt; false, "a load"),
     }
 }
@@ -204,7 +211,8 @@ fn reads_stores(rt: HostRuntime) {
     ];
     assert_end(&rt, alloc, &whole, Some(10));
     assert_end(&rt, alloc, &whole[..9], Some(7));
-    match read(&rt, alloc, &whole) {
+    let found = read(&rt, alloc, &whole);
+    match &found {
         Some((Instr::Store(store), _)) => match &store.get().to.value {
             Value::Local(to) => assert_eq!(rt; (*to, store.get().align), (6, Some(9))),
             Value::Const(_) => assert!(rt; false, "a local"),
@@ -232,7 +240,8 @@ fn reads_getelementptrs(rt: HostRuntime) {
     ];
     assert_end(&rt, alloc, &whole, Some(10));
     assert_end(&rt, alloc, &whole[..9], Some(7));
-    match read(&rt, alloc, &whole) {
+    let found = read(&rt, alloc, &whole);
+    match &found {
         Some(
             (
                 Instr::GetElementPtr {
