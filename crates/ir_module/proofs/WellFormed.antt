@@ -1,5 +1,5 @@
 -- Parts of what makes a module well formed, in the two forms in which they are said.
-use Rattle.std.proofs.Common.{◌≡◌, ◌↔◌, ◌<◌, ℕ, Bool, IsTrue, List, [], length, slice_get, Some, subst, sym, refl}
+use Rattle.std.proofs.Common.{◌≡◌, ◌↔◌, ◌<◌, ℕ, Bool, IsTrue, List, [], ◌∷◌, length, slice_get, Some, subst, sym, refl}
 use Rattle.attr_ids.specs.declared.ids.BlockId.{BlockId}
 use Rattle.attr_ids.specs.declared.ids.TypeId.{TypeId}
 use Rattle.ir_types.specs.declared.ir_type.IrType.{IrType}
@@ -15,7 +15,7 @@ use Rattle.ir_module.specs.declared.module.Module.{Module}
 use Rattle.ir_module.specs.Operands.{optional}
 use Rattle.ir_module.specs.Formed.{IsBlockIn, IsType, IsConstant, AreConstants, IsPartIn, sources, written_types}
 use Rattle.ir_module.specs.Formed.{IsWellFormed}
-use Rattle.ir_module.specs.Each.{Each, IsInstrFormed, HasFormedData, HasFormedBodies}
+use Rattle.ir_module.specs.Each.{Each, IsInstrFormed, IsBlockFormed, IsFuncFormed, HasFormedData, HasFormedBodies}
 use Rattle.ir_module.proofs.Each.{each_headed, each_mapped, each_unmapped}
 
 abbrev pub IsSourceIn : Module → ℕ → ℕ → BlockId → Type 0

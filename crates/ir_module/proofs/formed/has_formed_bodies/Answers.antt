@@ -1,3 +1,4 @@
+use Rattle.std.proofs.Common.{◌≡◌}
 use Rattle.ir_module.proofs.formed.has_formed_bodies.Goals as goal
 use Rattle.ir_module.proofs.formed.has_formed_bodies.Goals.{then-are_funcs_formed, else-are_funcs_formed, then-are_blocks_formed, else-are_blocks_formed}
 

@@ -1,4 +1,4 @@
-use Rattle.std.proofs.Common.{◌∙◌, sym, eqb-true}
+use Rattle.std.proofs.Common.{◌≡◌, ◌∙◌, sym, eqb-true}
 use Rattle.ir_module.proofs.formed.has_formed_data.Goals as goal
 use Rattle.ir_module.proofs.formed.has_formed_data.Goals.{then-has_few, else-has_few, then-len, else-len, then-are_types_formed, else-are_types_formed}
 

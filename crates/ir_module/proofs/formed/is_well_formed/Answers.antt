@@ -1,3 +1,4 @@
+use Rattle.std.proofs.Common.{◌≡◌}
 use Rattle.ir_module.proofs.WellFormed.{well_formed_of, data_of, bodies_of}
 use Rattle.ir_module.proofs.formed.is_well_formed.Goals as goal
 

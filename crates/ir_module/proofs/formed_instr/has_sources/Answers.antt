@@ -1,4 +1,5 @@
-use Rattle.std.proofs.Common.{◌≡◌, IsTrue, ◌↔◌, subst}
+use Rattle.std.proofs.Common.{◌≡◌, ◌∙◌, ap, List, IsTrue, ◌↔◌, subst, sym}
+use Rattle.ir_module.specs.declared.op.Arm.{Arm}
 use Rattle.ir_module.specs.declared.op.Op.{Op}
 use Rattle.ir_module.specs.declared.op.Op.TheVariants as op
 use Rattle.ir_module.specs.Formed.{sources}

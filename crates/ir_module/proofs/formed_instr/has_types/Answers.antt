@@ -1,4 +1,5 @@
-use Rattle.std.proofs.Common.{[], ◌∷◌, rules}
+use Rattle.std.proofs.Common.{◌≡◌, [], ◌∷◌, rules}
+use Rattle.ir_module.specs.Formed.{written_types}
 use Rattle.ir_module.proofs.WellFormed.{types_by}
 use Rattle.ir_module.proofs.formed_instr.has_types.Goals as goal
 

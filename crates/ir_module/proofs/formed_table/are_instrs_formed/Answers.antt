@@ -1,4 +1,4 @@
-use Rattle.std.proofs.Common.{length, arith, refl}
+use Rattle.std.proofs.Common.{◌≡◌, length, slice_get, Some, arith, refl}
 use Rattle.std.proofs.lemmas.Option.{slice_get_read}
 use Rattle.ir_module.specs.Each.{IsInstrFormed}
 use Rattle.ir_module.proofs.Each.{one_more, answered}

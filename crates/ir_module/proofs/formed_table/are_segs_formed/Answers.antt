@@ -1,4 +1,4 @@
-use Rattle.std.proofs.Common.{length, arith, ap}
+use Rattle.std.proofs.Common.{◌≡◌, length, slice_get, Some, arith, ap}
 use Rattle.ir_module.proofs.Runs.{read_at}
 use Rattle.ir_module.specs.Each.{IsSegFormed}
 use Rattle.ir_module.proofs.Each.{one_more, answered}

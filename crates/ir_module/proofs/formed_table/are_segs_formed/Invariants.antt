@@ -1,3 +1,4 @@
+use Rattle.std.proofs.Common.{length}
 use Rattle.ir_module.specs.Each.{IsSegFormed}
 use Rattle.ir_module.proofs.Each.{EachOf}
 use Rattle.ir_module.proofs.formed_table.are_segs_formed.Given as goal

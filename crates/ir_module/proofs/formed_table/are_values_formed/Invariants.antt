@@ -1,3 +1,4 @@
+use Rattle.std.proofs.Common.{length}
 use Rattle.ir_module.specs.Each.{IsValueFormed}
 use Rattle.ir_module.proofs.Each.{EachOf}
 use Rattle.ir_module.proofs.formed_table.are_values_formed.Given as goal

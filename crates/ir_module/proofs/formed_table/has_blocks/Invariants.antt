@@ -1,5 +1,6 @@
 use Rattle.std.proofs.Common.{◌≤◌, ◌<◌, ℕ}
 use Rattle.ir_module.specs.Formed.{IsBlockIn}
+use Rattle.ir_module.proofs.Each.{EachOf}
 use Rattle.ir_module.proofs.formed_table.has_blocks.Given as goal
 
 abbrev pub invariant-loop-i : goal.invariant-loop-i

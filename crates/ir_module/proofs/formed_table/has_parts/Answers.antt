@@ -1,4 +1,4 @@
-use Rattle.std.proofs.Common.{◌↔◌, IsTrue, List, subst, sym}
+use Rattle.std.proofs.Common.{◌≡◌, ◌↔◌, IsTrue, List, subst, sym}
 use Rattle.attr_ids.specs.declared.ids.TypeId.{TypeId}
 use Rattle.ir_types.specs.declared.ir_type.IrType.{IrType}
 use Rattle.ir_module.specs.Formed.{IsType, IsPartIn}

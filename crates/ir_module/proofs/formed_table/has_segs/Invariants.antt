@@ -1,5 +1,6 @@
 use Rattle.std.proofs.Common.{◌≤◌, ◌<◌, ℕ}
 use Rattle.ir_module.specs.Each.{IsSegAt}
+use Rattle.ir_module.proofs.Each.{EachOf}
 use Rattle.ir_module.proofs.formed_table.has_segs.Given as goal
 
 abbrev pub invariant-loop-k : goal.invariant-loop-k

@@ -1,4 +1,4 @@
-use Rattle.std.proofs.Common.{IsTrue, ◌↔◌, subst, sym}
+use Rattle.std.proofs.Common.{◌≡◌, IsTrue, ◌↔◌, subst, sym}
 use Rattle.ir_module.specs.declared.module.Def.{Def}
 use Rattle.ir_module.specs.Formed.{IsMadeAt}
 use Rattle.ir_module.proofs.formed_table.is_made.Goals as goal

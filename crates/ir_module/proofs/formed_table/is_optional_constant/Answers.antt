@@ -1,4 +1,4 @@
-use Rattle.std.proofs.Common.{IsTrue, ◌↔◌, Option, subst, sym}
+use Rattle.std.proofs.Common.{◌≡◌, IsTrue, ◌↔◌, Option, subst, sym}
 use Rattle.ir_module.specs.declared.op.Written.{Written}
 use Rattle.ir_module.specs.Operands.{optional}
 use Rattle.ir_module.specs.Formed.{AreConstants}

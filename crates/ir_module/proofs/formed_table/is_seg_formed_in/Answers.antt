@@ -1,4 +1,4 @@
-use Rattle.std.proofs.Common.{List, length, subst, sym}
+use Rattle.std.proofs.Common.{◌≡◌, List, length, subst, sym}
 use Rattle.ir_module.specs.declared.op.Instr.{Instr}
 use Rattle.ir_module.specs.Each.{Each, IsInstrFormed}
 use Rattle.ir_module.proofs.formed_table.is_seg_formed_in.Goals as goal
