@@ -1,0 +1,2 @@
+pub mod LongestEntities
+pub mod Taking
