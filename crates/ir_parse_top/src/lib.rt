@@ -9,3 +9,6 @@ mod headers;
 mod parse;
 
 pub use parse::parse_module;
+
+#[cfg(test)]
+mod tests;
