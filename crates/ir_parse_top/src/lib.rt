@@ -7,5 +7,7 @@ mod entities;
 mod globals;
 mod headers;
 mod parse;
+#[cfg(test)]
+mod tests_headers;
 
 pub use parse::parse_module;
