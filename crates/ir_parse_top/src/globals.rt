@@ -9,7 +9,7 @@ ghost use Rattle.ir_parse_top.specs.Parts as spec;
 
 use attr_ids::NoMemory;
 use ir_parse_parts::{attach, comdat, constant, leaves, optional, stands, the, ty};
-use ir_tree::{Const, Gtail, GlobalVar, Leaf, Terminal, Ty};
+use ir_tree::{Const, GlobalVar, Gtail, Leaf, Terminal, Ty};
 use sqlite_items::Items;
 use std::alloc::Global;
 

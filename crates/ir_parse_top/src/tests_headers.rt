@@ -1,7 +1,9 @@
 use crate::globals::global_var;
 use crate::headers::header;
 use ir_token::{MAX_BYTES, tokens};
-use ir_tree::{Const, Fattr, Ftail, GlobalVar, Gtail, Header, Params, Terminal, Ty, Word, terminal_of};
+use ir_tree::{
+    Const, Fattr, Ftail, GlobalVar, Gtail, Header, Params, Terminal, Ty, Word, terminal_of,
+};
 use std::alloc::Global;
 use std::process::Abort;
 
@@ -34,7 +36,8 @@ fn read_global(rt: &impl Abort, alloc: Global, text: &[u8]) -> Option<(GlobalVar
 
 #[test]
 fn reads_a_header_with_all_its_parts(rt: HostRuntime) {
-    let text = b"void @f(ptr nonnull %p, i32, ...) local_unnamed_addr #0 nounwind section \"s\" comdat align 16 personality ptr @p !dbg !1";
+    let text =
+        b"void @f(ptr nonnull %p, i32, ...) local_unnamed_addr #0 nounwind section \"s\" comdat align 16 personality ptr @p !dbg !1";
     let (found, next) = read_header(&rt, rt.alloc(), text).expect(&rt, "a header");
     assert!(rt; matches!(&found.result, Ty::Void(0)));
     assert_eq!(rt; found.name, 1);
@@ -69,7 +72,9 @@ fn reads_no_header_of_a_part(rt: HostRuntime) {
 
 #[test]
 fn leaves_a_parenthesis_that_never_closes(rt: HostRuntime) {
-    let (found, next) = read_header(&rt, rt.alloc(), b"void @f() nounwind(").expect(&rt, "a header");
+    let (found, next) = read_header(&rt, rt.alloc(), b"void @f() nounwind(").expect(
+        &rt, "a header",
+    );
     assert_eq!(rt; found.attributes.len(), 1);
     let word = found.attributes.get(0).expect(&rt, "an attribute");
     assert!(rt; matches!(word, Word::Fattr(Fattr::Word(4))));
