@@ -7,6 +7,8 @@ mod entities;
 mod globals;
 mod headers;
 mod parse;
+#[cfg(test)]
+mod tests_headers;
 
 pub use parse::parse_module;
 
