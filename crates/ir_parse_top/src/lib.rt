@@ -8,9 +8,8 @@ mod globals;
 mod headers;
 mod parse;
 #[cfg(test)]
+mod tests;
+#[cfg(test)]
 mod tests_headers;
 
 pub use parse::parse_module;
-
-#[cfg(test)]
-mod tests;

@@ -104,7 +104,7 @@ fn a_module_is_refused_where_no_entity_fits(rt: HostRuntime) {
         (b"define void @f() { }", 0),
         (b"define void @f() { ret void", 0),
         (b"declare void @f(", 0),
-        (b"declare void @f() x(", 19),
+        (b"declare void @f() cold(", 22),
         (b"@g = global\n", 0),
         (b"source_filename \"a\"", 0),
         (b"target x = \"a\"", 0),
