@@ -51,11 +51,7 @@ pub(crate) fn entity(
 }
 
 /// `'source_filename' '=' Str`
-fn source_filename(
-    toks: &[Terminal],
-    start: u32,
-    first: u32,
-) -> Option<(Entity, u32)>
+fn source_filename(toks: &[Terminal], start: u32, first: u32) -> Option<(Entity, u32)>
     requires few { length toks.now < 2 ^ 32 }
     requires after { the toks.now k.SourceFilename start ≡ Some first }
     ensures { Longest (production.entity toks.now) start result }
@@ -70,11 +66,7 @@ fn source_filename(
 }
 
 /// `'target' ('datalayout' | 'triple') '=' Str`
-fn target(
-    toks: &[Terminal],
-    start: u32,
-    first: u32,
-) -> Option<(Entity, u32)>
+fn target(toks: &[Terminal], start: u32, first: u32) -> Option<(Entity, u32)>
     requires few { length toks.now < 2 ^ 32 }
     requires after { the toks.now k.Target start ≡ Some first }
     ensures { Longest (production.entity toks.now) start result }
@@ -116,11 +108,7 @@ fn named(
 }
 
 /// `type | 'opaque'`
-fn type_body(
-    alloc: Global,
-    toks: &[Terminal],
-    at: u32,
-) -> Result<Option<(TypeBody, u32)>, NoMemory>
+fn type_body(alloc: Global, toks: &[Terminal], at: u32) -> Result<Option<(TypeBody, u32)>, NoMemory>
     requires few { length toks.now < 2 ^ 32 }
     ensures { IfOk result (λ r. Longest (production.type_body toks.now) at r) }
 {
@@ -211,11 +199,7 @@ fn declare(
 }
 
 /// `attach*`
-fn attaches(
-    alloc: Global,
-    toks: &[Terminal],
-    at: u32,
-) -> Result<(Items<Attach>, u32), NoMemory>
+fn attaches(alloc: Global, toks: &[Terminal], at: u32) -> Result<(Items<Attach>, u32), NoMemory>
     requires few { length toks.now < 2 ^ 32 }
     ensures { IfOk result (λ r. Longest (many (attach toks.now)) at (Some r)) }
 {

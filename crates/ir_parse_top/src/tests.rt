@@ -45,15 +45,17 @@ fn a_definition_is_an_entity(rt: HostRuntime) {
 fn entities_stand_in_their_order(rt: HostRuntime) {
     let text = b"source_filename = \"a.c\"\ntarget triple = \"x\"\n!0 = !{}\n%t = type { i32 }";
     let tree = read(&rt, rt.alloc(), text).expect(&rt, "a tree");
-    assert!(&rt; matches!(
-        tree.entities.as_slice(),
-        [
-            Entity::SourceFilename { name: 2 },
-            Entity::Target { which: 4, text: 6 },
-            Entity::Opaque(7),
-            Entity::Named { name: 8, .. },
-        ]
-    ));
+    assert!(&rt;
+        matches!(
+            tree.entities.as_slice(),
+            [
+                Entity::SourceFilename { name: 2 },
+                Entity::Target { which: 4, text: 6 },
+                Entity::Opaque(7),
+                Entity::Named { name: 8, .. },
+            ]
+        )
+    );
 }
 
 #[test]

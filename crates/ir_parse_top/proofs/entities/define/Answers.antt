@@ -21,7 +21,7 @@ pub returns-in_default-the-2 : goal.returns-in_default-the-2
 returns-in_default-the-2 c = define_no_close c.args.toks.now c.args.start c.args.first (sym c.requires.after) c.in-Some.brace c.in-Some.header (subst (Longest (header c.args.toks.now) c.args.first) c.in-Some.is c.in_ok-header.ensures) c.in-Some-the.begin c.in-Some-the.ensures.value c.in-Some-2.close c.in-Some-2.body (subst (Longest (body c.args.toks.now) c.in-Some-the.begin) c.in-Some-2.is c.in_ok-body.ensures) c.in_default-the-2.ensures.value
 
 pub returns : goal.returns
-returns c = 
+returns c =
     let whole : Definition = record { word = c.args.start; header = c.in-Some.header; body = c.in-Some-2.body; close = c.in-Some-2.close } in
     let same : c.in_ok-define.define ≡ whole = c.in_ok-define.ensures in
     subst (λ x. Longest (entity c.args.toks.now) c.args.start (Some (Define x, c.in-Some-the-2.next))) (sym same) (define_ends c.args.toks.now c.args.start c.args.first (sym c.requires.after) c.in-Some.brace c.in-Some.header (subst (Longest (header c.args.toks.now) c.args.first) c.in-Some.is c.in_ok-header.ensures) c.in-Some-the.begin c.in-Some-the.ensures.value c.in-Some-2.close c.in-Some-2.body (subst (Longest (body c.args.toks.now) c.in-Some-the.begin) c.in-Some-2.is c.in_ok-body.ensures) c.in-Some-the-2.next c.in-Some-the-2.ensures.value)
