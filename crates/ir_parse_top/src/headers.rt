@@ -281,10 +281,11 @@ fn ftail(alloc: Global, toks: &[Terminal], at: u32) -> Result<Option<(Ftail, u32
     if let Some((found, next)) = attach(toks, at) {
         return Ok(Some((Ftail::Attach(found), next)));
     }
-    match extra(alloc, toks, at)? {
-        Some(((word, value), next)) => Ok(Some((Ftail::Extra { word, value }, next))),
-        None => Ok(None),
-    }
+    let Some((tail, next)) = extra(alloc, toks, at)? else {
+        return Ok(None);
+    };
+    let (word, value) = tail;
+    Ok(Some((Ftail::Extra { word, value }, next)))
 }
 
 /// `('prefix' | 'prologue' | 'personality') tconst`

@@ -23,8 +23,8 @@ returns-in-Some-comdat c = ftail_comdat c.args.toks.now c.args.at c.in-Some-comd
 pub returns-in-Some-attach : goal.returns-in-Some-attach
 returns-in-Some-attach c = ftail_attach c.args.toks.now c.args.at c.in-Some-attach.next c.in-Some-attach.found c.in-Some-attach.ensures
 
-pub returns-in-Some-2 : goal.returns-in-Some-2
-returns-in-Some-2 c = ftail_extra c.args.toks.now c.args.at c.in-Some-2.next (c.in-Some-2.word, c.in-Some-2.value) (subst (Longest (extra c.args.toks.now) c.args.at) c.in-Some-2.is c.in_ok-extra.ensures)
+pub returns : goal.returns
+returns c = ftail_extra c.args.toks.now c.args.at c.in-Some-2.next c.in-Some-2.tail (subst (Longest (extra c.args.toks.now) c.args.at) c.in-Some-2.is c.in_ok-tail.ensures)
 
-pub returns-in-None : goal.returns-in-None
-returns-in-None c = ftail_none c.args.toks.now c.args.at (subst (Longest (leaf_pair c.args.toks.now k.Section k.Str) c.args.at) c.in_default.is c.leaf_pair.ensures) (subst (Longest (leaf_pair c.args.toks.now k.Partition k.Str) c.args.at) c.in_default-leaf_pair.is c.leaf_pair-2.ensures) (subst (Longest (leaf_pair c.args.toks.now k.Gc k.Str) c.args.at) c.in_default-leaf_pair-2.is c.leaf_pair-3.ensures) (subst (Longest (leaf_pair c.args.toks.now k.Align k.Int) c.args.at) c.in_default-leaf_pair-3.is c.leaf_pair-4.ensures) c.in_default-comdat.ensures c.in_default-attach.ensures (subst (Longest (extra c.args.toks.now) c.args.at) c.in-None.is c.in_ok-extra.ensures)
+pub returns-in_default-2 : goal.returns-in_default-2
+returns-in_default-2 c = ftail_none c.args.toks.now c.args.at (subst (Longest (leaf_pair c.args.toks.now k.Section k.Str) c.args.at) c.in_default.is c.leaf_pair.ensures) (subst (Longest (leaf_pair c.args.toks.now k.Partition k.Str) c.args.at) c.in_default-leaf_pair.is c.leaf_pair-2.ensures) (subst (Longest (leaf_pair c.args.toks.now k.Gc k.Str) c.args.at) c.in_default-leaf_pair-2.is c.leaf_pair-3.ensures) (subst (Longest (leaf_pair c.args.toks.now k.Align k.Int) c.args.at) c.in_default-leaf_pair-3.is c.leaf_pair-4.ensures) c.in_default-comdat.ensures c.in_default-attach.ensures (subst (Longest (extra c.args.toks.now) c.args.at) c.in_default-2.is c.in_ok-tail.ensures)
