@@ -20,5 +20,5 @@ mod tests_calls;
 mod tests_instructions;
 
 pub use blocks::body;
-pub use parse::{parse_body, terminals};
+pub use parse::{offset, parse_body, terminals};
 pub use refusal::SyntaxRefusal;

@@ -29,7 +29,7 @@ pub fn terminals(alloc: Global, toks: &Tokens, text: &[u8]) -> Result<Vec<Termin
 }
 
 /// The byte at which the token of this number begins, and behind the last token the end of the text.
-fn offset(toks: &Tokens, text: &[u8], at: u32) -> u32
+pub fn offset(toks: &Tokens, text: &[u8], at: u32) -> u32
     requires tokens { AreTokens text.now toks.now }
     requires small { length text.now ≤ MAX_BYTES }
     ensures { result ≡ spec.offset text.now toks.now at }
