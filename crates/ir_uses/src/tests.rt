@@ -74,9 +74,8 @@ fn caller_by(alloc: Global, called: Seg) -> Result<Module, NoMemory> {
     Ok(m)
 }
 
-/// A body with one parameter, value 1, that is given to an `invoke` of function 0 twice.
-fn invoke_with_arguments(alloc: Global) -> Result<Module, NoMemory> {
-    let mut m = empty_module(alloc)?;
+/// Fills an empty module with a body with one parameter, value 1, that is given to an `invoke` of function 0 twice.
+fn fill(alloc: Global, m: &mut Module) -> Result<(), NoMemory> {
     let none = BlockRun { first: 0, count: 0 };
     let both = BlockRun { first: 0, count: 2 };
     let given = [param(0, PTR, param_words())];
@@ -94,6 +93,12 @@ fn invoke_with_arguments(alloc: Global) -> Result<Module, NoMemory> {
     m.segs.push(seg(alloc, 1, ret(None))?)?;
     m.values.push(info(0, PTR, Def::Param(0)))?;
     m.values.push(info(1, PTR, Def::Param(0)))?;
+    Ok(())
+}
+
+fn invoke_with_arguments(alloc: Global) -> Result<Module, NoMemory> {
+    let mut m = empty_module(alloc)?;
+    fill(alloc, &mut m)?;
     Ok(m)
 }
 
@@ -136,6 +141,12 @@ fn an_invoke_uses_its_arguments(rt: HostRuntime) -> Result<(), Fail> {
     let twice = [use_at(0, 0, 1), use_at(0, 0, 2)];
     assert_eq!(rt; uses_of(&u, 1), twice.as_slice());
     assert!(rt; callers_of(&u, 0).is_empty());
+    Ok(())
+}
+
+#[test]
+fn an_invoke_is_a_caller(rt: HostRuntime) -> Result<(), Fail> {
+    let alloc = rt.alloc();
     let m = caught_call(alloc)?;
     assert!(rt; has_few(&m));
     let u = uses(alloc, &m)?;
@@ -154,33 +165,44 @@ fn opens_leaf(alloc: Global, m: &Module) -> Result<Option<bool>, NoMemory> {
     Ok(Some(is_open(&u, 0)))
 }
 
+/// The same, of the caller of function 0 with one more instruction before its return.
+fn opens_leaf_beside(alloc: Global, first: Instr) -> Result<Option<bool>, NoMemory> {
+    let m = caller_with(alloc, first)?;
+    opens_leaf(alloc, &m)
+}
+
 #[test]
 fn a_name_that_is_stored_or_compared_is_taken(rt: HostRuntime) -> Result<(), Fail> {
     let alloc = rt.alloc();
     let null = written(Operand::Null, PTR);
-    let m = caller_with(alloc, store(null, null, 8))?;
-    assert_eq!(rt; opens_leaf(alloc, &m)?, Some(false));
-    let m = caller_with(alloc, store(func_name(0), null, 8))?;
-    assert_eq!(rt; opens_leaf(alloc, &m)?, Some(true));
-    let m = caller_with(alloc, icmp(0, func_name(0), null))?;
-    assert_eq!(rt; opens_leaf(alloc, &m)?, Some(true));
+    let unnamed = opens_leaf_beside(alloc, store(null, null, 8))?;
+    assert_eq!(rt; unnamed, Some(false));
+    let stored = opens_leaf_beside(alloc, store(func_name(0), null, 8))?;
+    assert_eq!(rt; stored, Some(true));
+    let compared = opens_leaf_beside(alloc, icmp(0, func_name(0), null))?;
+    assert_eq!(rt; compared, Some(true));
     let behind = Operand::Offset {
         base: Symbol::Func(FuncId(0)),
         bytes: 8,
         inbounds: false,
         wrap: false,
     };
-    let m = caller_with(alloc, store(written(behind, PTR), null, 8))?;
-    assert_eq!(rt; opens_leaf(alloc, &m)?, Some(true));
+    let based = opens_leaf_beside(alloc, store(written(behind, PTR), null, 8))?;
+    assert_eq!(rt; based, Some(true));
     Ok(())
 }
 
 #[test]
-fn a_name_is_taken_as_argument_and_through_another_type(rt: HostRuntime) -> Result<(), Fail> {
+fn a_name_is_taken_as_argument(rt: HostRuntime) -> Result<(), Fail> {
     let alloc = rt.alloc();
     let passed = instr(call(alloc, VOID, 1, &[func_name(0)])?);
     let m = caller_by(alloc, seg(alloc, 1, passed)?)?;
     assert_eq!(rt; opens_leaf(alloc, &m)?, Some(true));
+    Ok(())
+}
+
+/// The caller of function 0, which calls it through another type.
+fn called_otherwise(alloc: Global) -> Result<Module, NoMemory> {
     let other = named(0, I32, call(alloc, I32, 0, &[])?);
     let mut m = caller_by(alloc, seg(alloc, 1, other)?)?;
     let made = Def::Instr {
@@ -188,10 +210,23 @@ fn a_name_is_taken_as_argument_and_through_another_type(rt: HostRuntime) -> Resu
         index: 0,
     };
     m.values.push(info(1, I32, made))?;
+    Ok(m)
+}
+
+#[test]
+fn a_call_through_another_type_takes_the_address(rt: HostRuntime) -> Result<(), Fail> {
+    let alloc = rt.alloc();
+    let m = called_otherwise(alloc)?;
     assert_eq!(rt; opens_leaf(alloc, &m)?, Some(true));
     assert!(rt; has_few(&m));
     let u = uses(alloc, &m)?;
     assert!(rt; callers_of(&u, 0).is_empty());
+    Ok(())
+}
+
+#[test]
+fn a_direct_call_takes_no_address(rt: HostRuntime) -> Result<(), Fail> {
+    let alloc = rt.alloc();
     let m = leaf_and_caller(alloc)?;
     assert_eq!(rt; opens_leaf(alloc, &m)?, Some(false));
     Ok(())
