@@ -1,0 +1,5 @@
+pub mod Lists
+pub mod EdgeRow
+pub mod Inside
+pub mod Lending
+pub mod Words
