@@ -61,7 +61,7 @@ fn counts(alloc: Global, s: &System) -> Result<Vec<u32>, NoMemory>
 {
     let mut counts = vec![in alloc; 0u32; s.count() as usize]?;
     for p in 0..s.count() {
-        count_each(&mut counts, s.inputs(PosId(p)).as_slice());
+        count_each(&mut counts, s.inputs(PosId(p)));
     }
     Ok(counts)
 }
@@ -86,7 +86,7 @@ fn enter(rows: &mut [Row], s: &System, d: PosId) -> Result<(), NoMemory>
     ensures rows { OnOk result ((q : ℕ) → q < length rows.old → row_at rows.new q ≡ entered (inputs_of s.now d.0) (reads_by s.now d.0) d (row_at rows.old q) q) }
     ensures count { OnOk result (edge_count rows.new ≡ edge_count rows.old + length (inputs_of s.now d.0)) }
 {
-    for (i, q) in s.inputs(d).as_slice().iter().enumerate() {
+    for (i, q) in s.inputs(d).iter().enumerate() {
         rows[q.0 as usize].add(d, s.reads(d, i as u32))?;
     }
     Ok(())

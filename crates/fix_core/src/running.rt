@@ -99,7 +99,7 @@ fn look(alloc: Global, s: &System, c: &mut CoreState, w: u8, i: u32) -> Result<(
     let CoreMode::Open { p, looked } = &old.mode else {
         return Ok(());
     };
-    let inputs = s.inputs(*p).as_slice();
+    let inputs = s.inputs(*p);
     if i as usize >= inputs.len() {
         return Ok(());
     }

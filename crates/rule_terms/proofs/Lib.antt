@@ -4,11 +4,13 @@ pub mod Keeping
 pub mod Local
 pub mod Marked
 pub mod Meeting
+pub mod MetIn
 pub mod Monotone
 pub mod Naming
 pub mod Noting
 pub mod Putting
 pub mod Reading
 pub mod ReadsShown
+pub mod Rows
 pub mod Slotted
 pub mod Valued

@@ -1,10 +1,9 @@
 -- What a term reads, noted beside the inputs.
-use Rattle.std.proofs.Common.{◌≡◌, ℕ, zero, suc, ◌∷◌, ◌<◌, ◌^◌, ◌*◌, ◌%◌, List, [], ◌++◌, ◌≤◌, length, take, drop, slice_index, bit_or, cond, eqb, eq-eqb, ap, sym, ◌∙◌, arith, refl, set, one-mul, get_or-set_same, get_or-set_other, inl, inr, replicate}
+use Rattle.std.proofs.Common.{◌≡◌, ℕ, zero, suc, ◌∷◌, ◌<◌, ◌^◌, ◌*◌, ◌%◌, List, [], ◌++◌, length, slice_index, bit_or, cond, eqb, eq-eqb, ap, sym, ◌∙◌, arith, refl, set, one-mul, get_or-set_same, get_or-set_other, inl, inr, replicate}
 use Rattle.std.specs.Int.Bits.{or_zero_r}
 use Rattle.std.proofs.lemmas.Bool.{cond-true, cond-false, ne_eqb, cases_eq}
 use Rattle.std.proofs.lemmas.Nat.{pow_below}
 use Rattle.std.proofs.lemmas.Nat.Bits.{bit_at_or, same_from_bits}
-use Rattle.std.proofs.lemmas.List.{take-append-le, take_all}
 use Rattle.std.proofs.Math.Nat.{mod-eq_of_lt}
 use Rattle.rule_terms.specs.declared.term.Term.{Term}
 use Rattle.rule_terms.specs.Reads.{with_byte_bits}
@@ -88,12 +87,3 @@ beside_more [] (suc more) zero = refl
 beside_more [] (suc more) (suc i) = beside_more [] more i
 beside_more (x ∷ xs) more zero = refl
 beside_more (x ∷ xs) more (suc i) = beside_more xs more i
-
--- the list that was made longer and noted in, as it stands in its vector
-pub noted_whole : (slots : List Term) (mask place : ℕ) (old sized noted : List ℕ) (n more len : ℕ) →
-    sized ≡ take n old ++ replicate more 0 → length old ≤ n → len ≡ length sized → length noted ≡ length sized → ReadsToo slots mask place sized noted →
-    (take len (noted ++ drop (length noted) sized) ≡ noted) × ReadsToo slots mask place old noted
-noted_whole slots mask place old sized noted n more len is within long same noted_in = (
-  take-append-le len noted (drop (length noted) sized) (omega arith) ∙ take_all len noted (omega arith),
-  λ i. noted_in i ∙ ap (λ b. bit_or b (numbered_reads i (nth (slot_terms slots) place) mask)) (ap (λ l. slice_index l i) (is ∙ ap (λ l. l ++ replicate more 0) (take_all n old within)) ∙ beside_more old more i),
-)

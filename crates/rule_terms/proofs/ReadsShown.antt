@@ -4,7 +4,6 @@ use Rattle.std.specs.List.{fold}
 use Rattle.std.proofs.lemmas.Bool.{and_parts, ltb-true, cases_eq, ne_eqb}
 use Rattle.std.proofs.lemmas.Option.{slice_get-get_or}
 use Rattle.attr_ids.specs.declared.ids.PosId.{PosId}
-use Rattle.rule_terms.specs.declared.rule.Rule.{Rule}
 use Rattle.rule_terms.specs.declared.system.System.TheInside.{Inside}
 use Rattle.rule_terms.specs.declared.term.Term.{Term}
 use Rattle.rule_terms.specs.declared.term.TermId.{TermId}
@@ -14,8 +13,8 @@ use Rattle.rule_terms.specs.Pool.{AreApart}
 use Rattle.rule_terms.specs.Reads.{with_byte_bits, layer_reads, reads_of, reads_by, reads_at}
 use Rattle.rule_terms.specs.Slots.{Numbered, const, word, both, either, unless, shift, keep_align, spread, nth, slot_terms, named, input_at, is_numbered, IsReadable}
 use Rattle.rule_terms.specs.SlotReads.{numbered_reads, places_read}
-use Rattle.rule_terms.specs.Kept.{met_terms, term_at}
-use Rattle.rule_terms.specs.Inside.{shown, IsKept}
+use Rattle.rule_terms.specs.Kept.{Rule, met_terms, term_at}
+use Rattle.rule_terms.specs.Inside.{shown, rules_in, IsKept}
 use Rattle.rule_terms.specs.System.{System, terms_at, inputs_of}
 use Rattle.rule_terms.proofs.Valued.{terms_at-shown, inputs-shown}
 
@@ -72,14 +71,14 @@ module _ (inputs : List PosId) (count : ℕ) (stand : AreApart inputs count) (re
       ∙ reads-places slots wanted (bit_or start (numbered_reads read (nth (slot_terms slots) place.0) wanted)) places (λ k other e. readable (suc k) other e)
 
 -- what a position reads of an input, read from the slots
-pub reads-shown : (a : Inside) (s : System) (p : ℕ) (rule : Rule) → IsKept a → shown a ≡ s → slice_get a.rules.items p ≡ Some rule → (read : ℕ) → read < length (inputs_of s p) →
-    places_read read a.pool.slots.items (slice_index a.masks p) rule.places.items ≡ reads_at s p read
+pub reads-shown : (a : Inside) (s : System) (p : ℕ) (rule : Rule) → IsKept a → shown a ≡ s → slice_get (rules_in a) p ≡ Some rule → (read : ℕ) → read < length (inputs_of s p) →
+    places_read read a.pool.slots.items (slice_index a.masks p) rule.places ≡ reads_at s p read
 unfolding met_terms
 reads-shown a s p rule kept same found read is_input =
     let are = kept.rules p rule found in
     let inputs : rule.inputs ≡ inputs_of s p = inputs-shown a s p rule kept same found in
     let within : read < length rule.inputs = subst (λ l. read < length l) (sym inputs) is_input in
-    sym (reads-places rule.inputs (length a.masks) are.apart read within a.pool.slots.items (slice_index a.masks p) 0 rule.places.items are.places)
+    sym (reads-places rule.inputs (length a.masks) are.apart read within a.pool.slots.items (slice_index a.masks p) 0 rule.places are.places)
     ∙ ap (fold (λ bits term. bit_or bits (reads_of (input_at rule.inputs read).0 term (slice_index a.masks p))) 0) (sym (terms_at-shown a s p rule same found))
     ∙ ap (λ m. fold (λ bits term. bit_or bits (reads_of (input_at rule.inputs read).0 term m)) 0 (terms_at s p)) (ap (λ (x : System). slice_index x.masks p) same)
     ∙ ap (λ l. reads_by s p (input_at l read).0) inputs

@@ -6,7 +6,6 @@ use Rattle.std.proofs.lemmas.Bool.{and_parts, ltb-true, cond-true, cond-false, n
 use Rattle.std.proofs.lemmas.Option.{slice_get-get_or, slice_get-map, get_or_from_slice_get}
 use Rattle.lattice_words.specs.Ladders.{shift_of, keep_align_of}
 use Rattle.attr_ids.specs.declared.ids.PosId.{PosId}
-use Rattle.rule_terms.specs.declared.rule.Rule.{Rule}
 use Rattle.rule_terms.specs.declared.system.System.TheInside.{Inside}
 use Rattle.rule_terms.specs.declared.term.Term.{Term}
 use Rattle.rule_terms.specs.declared.term.TermId.{TermId}
@@ -15,9 +14,9 @@ use Rattle.rule_terms.specs.declared.term.NewTerm.TheFolds.{fold-roll-NewTerm}
 use Rattle.rule_terms.specs.Meaning.{all_ones, meaning, layer_meaning, meet_of}
 use Rattle.rule_terms.specs.Slots.{Numbered, const, word, both, either, unless, shift, keep_align, spread, nth, slot_terms, named, input_at, is_numbered, numbered_meaning, IsReadable}
 use Rattle.rule_terms.specs.Names.{names_of, with_names}
-use Rattle.rule_terms.specs.Kept.{met_terms, term_at}
+use Rattle.rule_terms.specs.Kept.{Rule, met_terms, term_at}
 use Rattle.rule_terms.specs.Meeting.{meet_places}
-use Rattle.rule_terms.specs.Inside.{shown, IsKept}
+use Rattle.rule_terms.specs.Inside.{shown, rules_in, IsKept}
 use Rattle.rule_terms.specs.System.{System, terms_at, value, inputs_of, looked_word}
 
 module _ (inputs : List PosId) (words look : ℕ → ℕ) (agree : (n : ℕ) → n < length inputs → words (input_at inputs n).0 ≡ look n) where
@@ -55,23 +54,23 @@ module _ (inputs : List PosId) (words look : ℕ → ℕ) (agree : (n : ℕ) →
       ∙ meet-named slots (bit_and mask (numbered_meaning look (nth (slot_terms slots) place.0))) places (λ k other e. readable (suc k) other e)
 
 -- the terms of a position are those of its rule
-pub terms_at-shown : (a : Inside) (s : System) (p : ℕ) (rule : Rule) → shown a ≡ s → slice_get a.rules.items p ≡ Some rule → terms_at s p ≡ met_terms a.pool.slots.items rule
+pub terms_at-shown : (a : Inside) (s : System) (p : ℕ) (rule : Rule) → shown a ≡ s → slice_get (rules_in a) p ≡ Some rule → terms_at s p ≡ met_terms a.pool.slots.items rule
 terms_at-shown a s p rule same found =
     ap (λ (x : System). terms_at x p) (sym same)
-    ∙ get_or_from_slice_get (map (met_terms a.pool.slots.items) a.rules.items) p (met_terms a.pool.slots.items rule) [] (slice_get-map (met_terms a.pool.slots.items) a.rules.items p ∙ ap (option_map (met_terms a.pool.slots.items)) found)
+    ∙ get_or_from_slice_get (map (met_terms a.pool.slots.items) (rules_in a)) p (met_terms a.pool.slots.items rule) [] (slice_get-map (met_terms a.pool.slots.items) (rules_in a) p ∙ ap (option_map (met_terms a.pool.slots.items)) found)
 
 -- the value of a position, read from the slots
-pub value-shown : (a : Inside) (s : System) (p : ℕ) (rule : Rule) → IsKept a → shown a ≡ s → slice_get a.rules.items p ≡ Some rule →
+pub value-shown : (a : Inside) (s : System) (p : ℕ) (rule : Rule) → IsKept a → shown a ≡ s → slice_get (rules_in a) p ≡ Some rule →
     (words look : ℕ → ℕ) → ((n : ℕ) → n < length rule.inputs → words (input_at rule.inputs n).0 ≡ look n) →
-    meet_places look a.pool.slots.items (slice_index a.masks p) rule.places.items ≡ value s p words
+    meet_places look a.pool.slots.items (slice_index a.masks p) rule.places ≡ value s p words
 unfolding met_terms
 value-shown a s p rule kept same found words look agree =
-    sym (meet-named rule.inputs words look agree a.pool.slots.items (slice_index a.masks p) rule.places.items (kept.rules p rule found).places)
+    sym (meet-named rule.inputs words look agree a.pool.slots.items (slice_index a.masks p) rule.places (kept.rules p rule found).places)
     ∙ ap (meet_of words (slice_index a.masks p)) (sym (terms_at-shown a s p rule same found))
     ∙ ap (λ m. meet_of words m (terms_at s p)) (ap (λ (x : System). slice_index x.masks p) same)
 
 -- the inputs of a position are those of its rule
-pub inputs-shown : (a : Inside) (s : System) (p : ℕ) (rule : Rule) → IsKept a → shown a ≡ s → slice_get a.rules.items p ≡ Some rule → rule.inputs ≡ inputs_of s p
+pub inputs-shown : (a : Inside) (s : System) (p : ℕ) (rule : Rule) → IsKept a → shown a ≡ s → slice_get (rules_in a) p ≡ Some rule → rule.inputs ≡ inputs_of s p
 inputs-shown a s p rule kept same found =
     (kept.rules p rule found).inputs ∙ ap (λ terms. with_names [] (flat_map names_of terms)) (sym (terms_at-shown a s p rule same found))
 

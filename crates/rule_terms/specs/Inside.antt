@@ -1,20 +1,27 @@
 -- A system by its fields.
-use Rattle.std.specs.Prelude.{◌≡◌, ◌^◌, ◌<◌, [], length, map, All}
+use Rattle.std.specs.Prelude.{◌≡◌, ◌^◌, ◌<◌, List, length, map, All}
+use Rattle.smallvec.specs.SmallVec.{SmallVec}
+use Rattle.row_lists.specs.EdgeRow.{row_at}
+use Rattle.rule_terms.specs.declared.term.TermId.{TermId}
 use Rattle.rule_terms.specs.declared.system.System.TheInside.{Inside}
-use Rattle.rule_terms.specs.Kept.{met_terms, AreRules, HaveReads, IsMarkedAt}
-use Rattle.rule_terms.specs.Slots.{AreOrdered}
+use Rattle.rule_terms.specs.Kept.{Rule, rules_of, met_terms, AreRules, HaveReads}
+use Rattle.rule_terms.specs.Pool.{IsPool}
 use Rattle.rule_terms.specs.System.{System}
 
+-- what is kept of each position
+abbrev pub rules_in : Inside → List Rule
+rules_in a = rules_of a.rows (map (λ (places : SmallVec TermId). places.items) a.places.items)
+
 abbrev pub shown : Inside → System
-shown a = record { masks = a.masks; terms = map (met_terms a.pool.slots.items) a.rules.items }
+shown a = record { masks = a.masks; terms = map (met_terms a.pool.slots.items) (rules_in a) }
 
 pub record IsKept (a : Inside) : Type 0 where
   pub fits : length a.masks < 2 ^ 32
   pub facts : All (λ mask. mask < 2 ^ 47) a.masks
-  pub long : length a.rules.items ≡ length a.masks
+  pub rows : length a.rows ≡ length a.masks
+  pub places : length a.places.items ≡ length a.masks
   pub marks : length a.pool.marks.items ≡ length a.masks
-  pub closed : a.pool.inputs.items ≡ []
-  pub ordered : AreOrdered a.pool.slots.items
-  pub rules : AreRules (length a.masks) a.pool.slots.items a.rules.items
-  pub reads : HaveReads a.pool.slots.items a.masks a.rules.items
-  pub marked : IsMarkedAt a.rules.items a.pool.marks.items a.marked
+  pub pool : IsPool a.pool
+  pub rules : AreRules (length a.masks) a.pool.slots.items (rules_in a)
+  pub reads : HaveReads a.pool.slots.items a.masks (rules_in a)
+  pub opened : a.pool.inputs.items ≡ (row_at a.rows a.marked).positions

@@ -41,3 +41,15 @@ pub record IsRemarked (old new : Pool) : Type 0 where
   pub slots : new.slots.items ≡ old.slots.items
   pub inputs : new.inputs.items ≡ old.inputs.items
   pub size : length new.marks.items ≡ length old.marks.items
+
+-- the inputs of one position may have taken the place of those of another
+pub record IsOpened (old new : Pool) : Type 0 where
+  pub pool : IsPool new
+  pub slots : new.slots.items ≡ old.slots.items
+  pub size : length new.marks.items ≡ length old.marks.items
+
+-- a pool goes on as another whose inputs may be others
+pub record GoesOnSlots (old new : Pool) : Type 0 where
+  pub pool : IsPool new
+  pub slots : IsGrown old.slots.items new.slots.items
+  pub size : length new.marks.items ≡ length old.marks.items

@@ -1,94 +1,114 @@
-ghost use Rattle.std.specs.Prelude.{◌≡◌, ◌^◌, ◌<◌, ℕ, [], ◌∷◌, ◌++◌, length, take, fold, bit_and, map, slice_get, Some, IsTrue, OnOk, OnErr, IfOk};
-ghost use Rattle.rule_terms.specs.Kept.{AreApartAt, IsMarkedAt};
-ghost use Rattle.rule_terms.specs.Pool.{IsMarked, IsPool, IsRemarked, GoesOn};
-ghost use Rattle.rule_terms.specs.Names.{is_over, names_of, with_names};
-ghost use Rattle.rule_terms.specs.Slots.{AreOrdered, IsReadable, nth, numbered_meaning, slot_terms};
+ghost use Rattle.std.specs.Prelude.{◌≡◌, ◌^◌, ◌<◌, ℕ, length, slice_get, slice_set, Some, IsTrue, OnOk, OnErr};
+ghost use Rattle.row_lists.specs.EdgeRow.{row_at};
+ghost use Rattle.rule_terms.specs.Kept.{rule_of};
+ghost use Rattle.rule_terms.specs.Pool.{AreApart, IsPool, IsOpened, GoesOn, GoesOnSlots};
+ghost use Rattle.rule_terms.specs.Names.{is_over};
+ghost use Rattle.rule_terms.specs.Slots.{AreOrdered, IsReadable};
 ghost use Rattle.rule_terms.specs.Looked.{input_word, input_count, HasWords};
-ghost use Rattle.rule_terms.specs.Meeting.{Met, PutMet, NotMet, meet_places};
+ghost use Rattle.rule_terms.specs.Meeting.{IsWidened, Met, meet_places, with_inputs};
 
 use crate::pool::Pool;
 use crate::reads::note_reads;
 use crate::term::{NewTerm, Term, TermId};
 use crate::value::{Looked, value};
-use attr_ids::{NoMemory, PosId, PosList};
+use attr_ids::{NoMemory, PosId};
+use row_lists::EdgeRows;
 use smallvec::SmallVec;
 use std::alloc::Global;
-use std::mem;
 
-/// What a system keeps of one position: the positions that its terms name, each once, beside each the
-/// bits that they read of it, and the places of the terms that were met in.
-#[derive(Drop)]
-pub(crate) struct Rule {
-    pub(crate) inputs: PosList,
-    pub(crate) reads: Vec<u64>,
-    pub(crate) places: SmallVec<TermId, 2>,
-}
-
-/// Marks the inputs of the position p, unless they are marked.
-pub(crate) fn open(rules: &[Rule], pool: &mut Pool, marked: &mut u32, p: PosId)
-    requires place { p.0 < length rules.now }
-    requires fits { length pool.old.marks.items < 2 ^ 32 }
-    requires apart { AreApartAt rules.now (length pool.old.marks.items) p.0 }
-    requires marked { IsMarkedAt rules.now pool.old.marks.items marked.old }
-    ensures open { marked.new ≡ p.0 }
-    ensures pool { IsRemarked pool.old pool.new }
-    ensures marked { IsMarkedAt rules.now pool.new.marks.items p.0 }
+/// Marks the inputs of the position p in place of those that are marked. Without memory these stay marked.
+pub(crate) fn open(
+    rows: &EdgeRows,
+    pool: &mut Pool,
+    marked: &mut u32,
+    alloc: Global,
+    p: PosId,
+) -> Result<(), NoMemory>
+    requires place { p.0 < length rows.now }
+    requires pool { IsPool pool.old }
+    requires apart { AreApart (row_at rows.now p.0).positions (length pool.old.marks.items) }
+    requires opened { pool.old.inputs.items ≡ (row_at rows.now marked.old).positions }
+    ensures pool { IsOpened pool.old pool.new }
+    ensures opened { pool.new.inputs.items ≡ (row_at rows.now marked.new).positions }
+    ensures marked { OnOk result (marked.new ≡ p.0) }
 {
     if *marked != p.0 {
-        pool.mark(rules[p.0 as usize].inputs.as_slice());
+        let inputs = Vec::from_slice(alloc, rows.positions(p.0 as usize))?;
+        pool.mark(&inputs);
+        pool.inputs = inputs;
         *marked = p.0;
     }
-}
-
-fn put_met(
-    pool: &mut Pool,
-    reads: &mut Vec<u64>,
-    places: &mut SmallVec<TermId, 2>,
-    mask: u64,
-    term: &NewTerm,
-) -> Result<(), NoMemory>
-    requires pool { IsPool pool.old }
-    requires over { IsTrue (is_over (length pool.old.marks.items) term.now) }
-    requires reads { length reads.old.items ≡ length pool.old.inputs.items }
-    ensures goes_on { GoesOn pool.old pool.new }
-    ensures put { OnOk result (PutMet pool.old pool.new places.old.items places.new.items mask reads.old.items reads.new.items term.now) }
-    ensures places { OnErr result (places.new.items ≡ places.old.items) }
-    ensures reads { OnErr result (take (length reads.old.items) reads.new.items ≡ reads.old.items) }
-{
-    let place = pool.put(term)?;
-    reads.resize(pool.inputs.len(), 0)?;
-    places.push(place)?;
-    note_reads(&pool.slots, reads, mask, place);
     Ok(())
 }
 
-/// Meets one more term into the rule, whose inputs are marked.
-pub(crate) fn meet_in(
+/// Puts inputs at the end of a row, with nothing read of them.
+fn add_inputs(rows: &mut EdgeRows, p: PosId, inputs: &[PosId]) -> Result<(), NoMemory>
+    requires place { p.0 < length rows.old }
+    ensures ok { OnOk result (rows.new ≡ slice_set rows.old p.0 (with_inputs (row_at rows.old p.0) inputs.now)) }
+    ensures err { OnErr result (IsWidened rows.old rows.new p.0) }
+{
+    for input in inputs {
+        rows.push(p.0 as usize, *input, 0)?;
+    }
+    Ok(())
+}
+
+/// Puts the term into the pool, the inputs that are new into the position's row and the term's place behind the others.
+fn put_met(
     pool: &mut Pool,
-    rule: &mut Rule,
-    alloc: Global,
+    rows: &mut EdgeRows,
+    places: &mut SmallVec<TermId, 2>,
+    p: PosId,
     mask: u64,
     term: &NewTerm,
 ) -> Result<(), NoMemory>
     requires pool { IsPool pool.old }
-    requires closed { pool.old.inputs.items ≡ [] }
-    requires marked { IsMarked rule.old.inputs pool.old.marks.items }
-    requires reads { length rule.old.reads.items ≡ length rule.old.inputs }
+    requires place { p.0 < length rows.old }
+    requires opened { pool.old.inputs.items ≡ (row_at rows.old p.0).positions }
+    requires reads { length (row_at rows.old p.0).bits ≡ length (row_at rows.old p.0).positions }
     requires over { IsTrue (is_over (length pool.old.marks.items) term.now) }
     ensures goes_on { GoesOn pool.old pool.new }
-    ensures closed { pool.new.inputs.items ≡ [] }
-    ensures marked { IsMarked rule.new.inputs pool.new.marks.items }
-    ensures met { OnOk result (Met pool.new.slots.items mask rule.old rule.new term.now) }
-    ensures err { OnErr result (NotMet rule.old rule.new) }
+    ensures rows { OnOk result (rows.new ≡ slice_set rows.old p.0 (row_at rows.new p.0)) }
+    ensures opened { OnOk result (pool.new.inputs.items ≡ (row_at rows.new p.0).positions) }
+    ensures met { OnOk result (Met pool.new.slots.items mask (rule_of (row_at rows.old p.0) places.old.items) (rule_of (row_at rows.new p.0) places.new.items) term.now) }
+    ensures widened { OnErr result (IsWidened rows.old rows.new p.0) }
+    ensures places { OnErr result (places.new.items ≡ places.old.items) }
 {
-    let before = rule.inputs.len();
-    pool.inputs = mem::replace(&mut rule.inputs, PosList::new(alloc)).into_vec();
-    let met = put_met(pool, &mut rule.reads, &mut rule.places, mask, term);
+    let before = pool.inputs.len();
+    let place = pool.put(term)?;
+    add_inputs(rows, p, &pool.inputs[before..])?;
+    places.push(place)?;
+    note_reads(&pool.slots, rows.bits_mut(p.0 as usize), mask, place);
+    Ok(())
+}
+
+/// Meets one more term into the position p, whose inputs are marked. Without memory its row and its places stay as they were.
+pub(crate) fn meet_in(
+    pool: &mut Pool,
+    rows: &mut EdgeRows,
+    places: &mut SmallVec<TermId, 2>,
+    p: PosId,
+    mask: u64,
+    term: &NewTerm,
+) -> Result<(), NoMemory>
+    requires pool { IsPool pool.old }
+    requires place { p.0 < length rows.old }
+    requires opened { pool.old.inputs.items ≡ (row_at rows.old p.0).positions }
+    requires reads { length (row_at rows.old p.0).bits ≡ length (row_at rows.old p.0).positions }
+    requires over { IsTrue (is_over (length pool.old.marks.items) term.now) }
+    ensures pool { GoesOnSlots pool.old pool.new }
+    ensures opened { pool.new.inputs.items ≡ (row_at rows.new p.0).positions }
+    ensures rows { rows.new ≡ slice_set rows.old p.0 (row_at rows.new p.0) }
+    ensures met { OnOk result (Met pool.new.slots.items mask (rule_of (row_at rows.old p.0) places.old.items) (rule_of (row_at rows.new p.0) places.new.items) term.now) }
+    ensures err { OnErr result (rows.new ≡ rows.old) }
+    ensures places { OnErr result (places.new.items ≡ places.old.items) }
+{
+    let before = pool.inputs.len();
+    let met = put_met(pool, rows, places, p, mask, term);
     if met.is_err() {
         pool.inputs.truncate(before);
-        rule.reads.truncate(before);
+        rows.truncate(p.0 as usize, before);
     }
-    rule.inputs = PosList::from_vec(mem::replace(&mut pool.inputs, Vec::new(alloc)));
     met
 }
 

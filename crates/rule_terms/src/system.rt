@@ -1,24 +1,27 @@
-ghost use Rattle.std.specs.Prelude.{◌≡◌, ◌^◌, ◌<◌, [], ◌∷◌, ◌++◌, length, replicate, All, IfOk, OnOk, OnErr, IsTrue, slice_index};
-ghost use Rattle.rule_terms.specs.Kept.{AreEmptyRules};
+ghost use Rattle.std.specs.Prelude.{◌≡◌, ◌^◌, ◌<◌, length, map, All, IfOk, OnOk, OnErr, IsTrue, slice_index};
+ghost use Rattle.rule_terms.specs.Kept.{AreEmptyLists};
 ghost use Rattle.rule_terms.specs.Names.{is_over};
 ghost use Rattle.rule_terms.specs.Reads.{reads_at};
 ghost use Rattle.rule_terms.specs.System.{with_masks, with_term, value_in, value_at, inputs_of, IsSystem};
 
 use crate::pool::Pool;
-use crate::rule::{Rule, meet, meet_in, open};
-use crate::term::NewTerm;
+use crate::rule::{meet, meet_in, open};
+use crate::term::{NewTerm, TermId};
 use crate::value::Looked;
-use attr_ids::{NoMemory, PosId, PosList, WordList};
+use attr_ids::{NoMemory, PosId, WordList};
+use row_lists::EdgeRows;
 use smallvec::SmallVec;
 use std::alloc::Global;
 use std::marker::Model;
 
-/// A mask for each position, and the terms that were met into it.
+/// A mask for each position, and the terms that were met into it. Beside each input of a position
+/// stand the bits that its terms read of it; the pool has the inputs of the position `marked`.
 #[derive(Drop)]
 pub struct System {
     masks: WordList,
     pool: Pool,
-    rules: Vec<Rule>,
+    rows: EdgeRows,
+    places: Vec<SmallVec<TermId, 2>>,
     marked: u32,
 }
 
@@ -39,19 +42,15 @@ impl Model for System {
     ghost invariant = { IsKept };
 }
 
-// A rule for each position, that no term was met into yet.
-fn rules_of(alloc: Global, count: usize) -> Result<Vec<Rule>, NoMemory>
-    ensures { IfOk result (λ rules. AreEmptyRules count rules.items) }
+// A list of places for each position, that no term was met into yet.
+fn no_places(alloc: Global, count: usize) -> Result<Vec<SmallVec<TermId, 2>>, NoMemory>
+    ensures { IfOk result (λ lists. AreEmptyLists count (map (λ places. places.items) lists.items)) }
 {
-    let mut rules = Vec::with_capacity(alloc, count)?;
+    let mut lists = Vec::with_capacity(alloc, count)?;
     for _ in 0..count {
-        rules.push(Rule {
-            inputs: PosList::new(alloc),
-            reads: Vec::new(alloc),
-            places: SmallVec::new(alloc),
-        })?;
+        lists.push(SmallVec::new(alloc))?;
     }
-    Ok(rules)
+    Ok(lists)
 }
 
 impl System {
@@ -62,7 +61,8 @@ impl System {
         ensures { IfOk result (λ system. system ≡ with_masks masks) }
     {
         let count = masks.len();
-        let rules = rules_of(alloc, count)?;
+        let rows = EdgeRows::new(alloc, count)?;
+        let places = no_places(alloc, count)?;
         let marks = vec![in alloc; 0; count]?;
         Ok(System {
             masks,
@@ -71,7 +71,8 @@ impl System {
                 inputs: Vec::new(alloc),
                 marks,
             },
-            rules,
+            rows,
+            places,
             marked: 0,
         })
     }
@@ -83,12 +84,13 @@ impl System {
         ensures ok { OnOk result (self.new ≡ with_term self.old p.0 term) }
         ensures err { OnErr result (self.new ≡ self.old) }
     {
-        open(&self.rules, &mut self.pool, &mut self.marked, p);
+        open(&self.rows, &mut self.pool, &mut self.marked, alloc, p)?;
         let mask = self.masks.as_slice()[p.0 as usize];
         meet_in(
             &mut self.pool,
-            &mut self.rules[p.0 as usize],
-            alloc,
+            &mut self.rows,
+            &mut self.places[p.0 as usize],
+            p,
             mask,
             &term,
         )
@@ -112,11 +114,11 @@ impl System {
     }
 
     /// The positions that the position's terms name, each once, in the order in which they are first named.
-    pub fn inputs(&self, p: PosId) -> &PosList
+    pub fn inputs(&self, p: PosId) -> &[PosId]
         requires { p.0 < length self.now.masks }
         ensures { result.now ≡ inputs_of self.now p.0 }
     {
-        &self.rules[p.0 as usize].inputs
+        self.rows.positions(p.0 as usize)
     }
 
     /// What the position's mask and terms leave, where `looked` has the word of each of its inputs, in their order.
@@ -125,14 +127,9 @@ impl System {
         requires looked { length looked.now ≡ length (inputs_of self.now p.0) }
         ensures { result ≡ value_at self.now p.0 looked.now }
     {
-        let rule = &self.rules[p.0 as usize];
+        let places = self.places[p.0 as usize].as_slice();
         let mask = self.masks.as_slice()[p.0 as usize];
-        meet(
-            &self.pool.slots,
-            &Looked::Each(looked),
-            rule.places.as_slice(),
-            mask,
-        )
+        meet(&self.pool.slots, &Looked::Each(looked), places, mask)
     }
 
     /// What the position's mask and terms leave, where `words` has the word of each position.
@@ -141,13 +138,13 @@ impl System {
         requires words { length words.now ≡ length self.now.masks }
         ensures { result ≡ value_in self.now p.0 words.now }
     {
-        let rule = &self.rules[p.0 as usize];
+        let places = self.places[p.0 as usize].as_slice();
         let mask = self.masks.as_slice()[p.0 as usize];
         let looked = Looked::Through {
-            inputs: rule.inputs.as_slice(),
+            inputs: self.rows.positions(p.0 as usize),
             words: words.as_slice(),
         };
-        meet(&self.pool.slots, &looked, rule.places.as_slice(), mask)
+        meet(&self.pool.slots, &looked, places, mask)
     }
 
     /// The bits that the position's terms read of its input number `i`, where those of its mask are wanted:
@@ -157,7 +154,7 @@ impl System {
         requires input { i < length (inputs_of self.now p.0) }
         ensures { result ≡ reads_at self.now p.0 i }
     {
-        self.rules[p.0 as usize].reads[i as usize]
+        self.rows.bits(p.0 as usize)[i as usize]
     }
 }
 

@@ -63,7 +63,7 @@ impl<'s> LatticeWords<'s> {
         ensures answer { result ≡ facts_of (found_by seat.new) }
     {
         let Some(p) = seat.place else { unreachable!() };
-        let input = self.system.inputs(p).as_slice()[i as usize];
+        let input = self.system.inputs(p)[i as usize];
         let word = self
             .table
             .shared

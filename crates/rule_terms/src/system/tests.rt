@@ -47,7 +47,7 @@ fn the_terms_of_a_position_are_met(rt: HostRuntime) -> Result<(), Fail> {
     system.meet(rt.alloc(), PosId(0), NewTerm::Word(PosId(2)))?;
     system.meet(rt.alloc(), PosId(0), NewTerm::Const(6))?;
     let words = WordList::from_slice(rt.alloc(), &[7, 7, 5])?;
-    assert_eq!(rt; system.inputs(PosId(0)).as_slice(), [PosId(2)].as_slice());
+    assert_eq!(rt; system.inputs(PosId(0)), [PosId(2)].as_slice());
     assert_eq!(rt; system.eval_in(PosId(0), &words), 4);
     assert_eq!(rt; system.eval_in(PosId(1), &words), ALL);
     assert_eq!(rt; system.reads(PosId(0), 0), ALL);
@@ -67,7 +67,7 @@ fn a_test_of_a_bit_gives_all_bits(rt: HostRuntime) -> Result<(), Fail> {
     };
     system.meet(rt.alloc(), PosId(0), term)?;
     let inputs = system.inputs(PosId(0));
-    assert_eq!(rt; inputs.as_slice(), [PosId(1), PosId(2)].as_slice());
+    assert_eq!(rt; inputs, [PosId(1), PosId(2)].as_slice());
     assert_eq!(rt; inputs.len(), 2);
     assert_eq!(rt; system.eval(PosId(0), &[8, 5]), ALL);
     assert_eq!(rt; system.eval(PosId(0), &[7, 5]), 5);

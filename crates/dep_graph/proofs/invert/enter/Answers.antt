@@ -21,7 +21,7 @@ bounds-rows-q c =
     let s = c.args.s.now in
     let d = c.args.d in
     let i = c.loop-i.i in
-    let inputs : c.as_slice-q-items.result.now ≡ inputs_of s d.0 = c.as_slice-q-items.ensures ∙ c.inputs.ensures in
+    let inputs : c.inputs-q-items.result.now ≡ inputs_of s d.0 = c.inputs-q-items.ensures in
     let z : PosId = record { 0 = 0 } in
     let is = ap (λ ps. (get_or ps i z).0) inputs in
     let on_list : i < length (inputs_of s d.0) = omega (arith, ap length inputs, c.loop-i-test.true) in
@@ -30,7 +30,7 @@ bounds-rows-q c =
 pub overflow_cast-i : goal.overflow_cast-i
 overflow_cast-i c =
     let s = c.args.s.now in
-    let len = ap length (c.as_slice-q-items.ensures ∙ c.inputs.ensures) in
+    let len = ap length c.inputs-q-items.ensures in
     omega (arith, len, inputs_few s c.requires.system c.args.d.0, c.requires.system.fits)
 
 pub loop-i-preserved : goal.loop-i-preserved
@@ -39,9 +39,9 @@ loop-i-preserved c =
     let d = c.args.d in
     let rows = c.loop-i.rows in
     let i = c.loop-i.i in
-    let inputs : c.as_slice-q-items.result.now ≡ inputs_of s d.0 = c.as_slice-q-items.ensures ∙ c.inputs.ensures in
+    let inputs : c.inputs-q-items.result.now ≡ inputs_of s d.0 = c.inputs-q-items.ensures in
     let z : PosId = record { 0 = 0 } in
-    let at = (get_or c.as_slice-q-items.result.now i z).0 in
+    let at = (get_or c.inputs-q-items.result.now i z).0 in
     let on_list : i < length (inputs_of s d.0) = omega (arith, ap length inputs, c.loop-i-test.true) in
     let is : at ≡ (get_or (inputs_of s d.0) i z).0 = ap (λ ps. (get_or ps i z).0) inputs in
     let within : at < length rows = omega (arith, is, All-get_or (λ (p : PosId). p.0 < length s.masks) (inputs_of s d.0) i z on_list (inputs_within s c.requires.system d.0), c.requires.long, c.loop-i.auto.rows) in

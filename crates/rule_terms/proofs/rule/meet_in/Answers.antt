@@ -1,24 +1,38 @@
-use Rattle.std.proofs.Common.{sym, take, drop, subst}
+use Rattle.std.proofs.Common.{◌≡◌, ◌∙◌, ap, sym, subst, length, take, drop, set}
 use Rattle.std.proofs.lemmas.List.{take-append-drop}
+use Rattle.row_lists.specs.EdgeRow.{row_at}
 use Rattle.rule_terms.specs.Pool.{IsMarked}
 use Rattle.rule_terms.proofs.Marked.{marked_front}
+use Rattle.rule_terms.proofs.Rows.{any_err, from_err, cut_back, row_set_back}
 use Rattle.rule_terms.proofs.rule.meet_in.Goals as goal
-use Rattle.rule_terms.proofs.rule.meet_in.Goals.{then-is_err, else-is_err}
+use Rattle.rule_terms.proofs.rule.meet_in.Goals.{After-truncate-then-is_err}
 
-pub put_met-met-requires-clause-pool : goal.put_met-met-requires-clause-pool
-put_met-met-requires-clause-pool c = record {
-  fits = c.requires.pool.fits;
-  marked = rw (c.into_vec.ensures, c.replace.ensures.value) c.requires.marked;
-  ordered = c.requires.pool.ordered;
-}
+pub returns-then-is_err-clause-pool : goal.returns-then-is_err-clause-pool
+returns-then-is_err-clause-pool c =
+    let on = c.put_met-met.ensures.goes_on in
+    let all = c.put_met-met.new.pool.inputs.items in
+    let marks = c.put_met-met.new.pool.marks.items in
+    let before = c.len-before.result in
+    record {
+      pool = record {
+        fits = on.pool.fits;
+        marked = rw c.truncate.ensures.items (marked_front (take before all) (drop before all) marks (subst (λ l. IsMarked l marks) (sym (take-append-drop before all)) on.pool.marked));
+        ordered = on.pool.ordered;
+      };
+      slots = on.slots;
+      size = on.size;
+    }
 
-pub returns-clause-marked : goal.returns-clause-marked
-returns-clause-marked c =
-    let here : IsMarked c.if-is_err.pool.inputs.items c.if-is_err.pool.marks.items = elim c.if-is_err.branch [
-      | then-is_err w ↦
-          let all = c.put_met-met.new.pool.inputs.items in
-          rw (w.pool-is, w.truncate.ensures.items)
-          (marked_front (take c.len-before.result all) (drop c.len-before.result all) c.put_met-met.new.pool.marks.items (subst (λ l. IsMarked l c.put_met-met.new.pool.marks.items) (sym (take-append-drop c.len-before.result all)) c.put_met-met.ensures.goes_on.pool.marked))
-      | else-is_err w ↦ rw w.pool-is c.put_met-met.ensures.goes_on.pool.marked
-    ] in
-    rw (c.from_vec.ensures, c.replace-2.ensures.value) here
+-- the rows are as they were
+back : (c : After-truncate-then-is_err) → c.truncate-then-is_err.new.self ≡ c.args.rows.now
+back c =
+    let widened = from_err c.put_met-met.result (sym c.is_err.ensures.value ∙ c.if-is_err.true) c.put_met-met.ensures.widened in
+    let inputs : c.len-before.result ≡ length (row_at c.args.rows.now c.args.p.0).positions = c.len-before.ensures ∙ c.args.pool.now.inputs.ok.0 ∙ ap length c.requires.opened in
+    cut_back c.args.rows.now c.put_met-met.new.rows c.truncate-then-is_err.new.self c.args.p.0 c.len-before.result c.requires.place widened inputs (inputs ∙ sym c.requires.reads) c.truncate-then-is_err.ensures
+
+pub returns-then-is_err-clause-rows : goal.returns-then-is_err-clause-rows
+returns-then-is_err-clause-rows c =
+    back c ∙ sym (row_set_back c.args.rows.now c.args.p.0) ∙ ap (λ l. set c.args.rows.now c.args.p.0 (row_at l c.args.p.0)) (sym (back c))
+
+pub returns-then-is_err-clause-err : goal.returns-then-is_err-clause-err
+returns-then-is_err-clause-err c = any_err c.put_met-met.result (back c)

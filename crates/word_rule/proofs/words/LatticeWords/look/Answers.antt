@@ -33,8 +33,8 @@ load-word-requires c =
     let z : PosId = record { 0 = 0 } in
     let at : c.in-Some.p ≡ opened me.0.core.mode = place_open me.0.core.mode seat.place c.in-Some.p c.in-Some.is seat.opens c.requires.open in
     let system : system_of me.0.about ≡ words.system.now = system_is k me.0.about words.system.now c.requires.of.1 words.about_system in
-    let list : inputs_at me.0 ≡ c.as_slice.result.now = (λ j. inputs_of (system j) (sym at j).0) ∙ sym (c.as_slice.ensures ∙ c.inputs.ensures) in
-    let there : (input_at (inputs_at me.0) i).0 ≡ (input_at c.as_slice.result.now i).0 = ap (λ (ps : List PosId). (input_at ps i).0) list in
+    let list : inputs_at me.0 ≡ c.inputs.result.now = (λ j. inputs_of (system j) (sym at j).0) ∙ sym c.inputs.ensures in
+    let there : (input_at (inputs_at me.0) i).0 ≡ (input_at c.inputs.result.now i).0 = ap (λ (ps : List PosId). (input_at ps i).0) list in
     let inside : i < length (inputs_at me.0) = subst (λ (s : System). i < length (inputs_of s (opened me.0.core.mode).0)) (sym system) c.requires.input in
     let small : (input_at (inputs_at me.0) i).0 < length k.system.value.masks =
     subst (λ (s : System). (input_at (inputs_of s (opened me.0.core.mode).0) i).0 < length k.system.value.masks) (sym system)
@@ -61,14 +61,14 @@ invariant_of-seat-clause-looks c =
     let words = c.args.self.now in
     let seat = c.args.seat.now in
     let facts : ℕ = bit_and c.load-word.result 140737488355327 in
-    let became = looked_became words.table.shared.key words.system.now seat.seat.me c.load-word.new.seat.me c.args.i c.load-word.result seat.place c.in-Some.p c.as_slice.result.now
-    c.requires.of.1 words.about_system c.in-Some.is seat.opens c.requires.open c.requires.input (c.as_slice.ensures ∙ c.inputs.ensures) c.load-word.ensures.2 in
+    let became = looked_became words.table.shared.key words.system.now seat.seat.me c.load-word.new.seat.me c.args.i c.load-word.result seat.place c.in-Some.p c.inputs.result.now
+    c.requires.of.1 words.about_system c.in-Some.is seat.opens c.requires.open c.requires.input c.inputs.ensures c.load-word.ensures.2 in
     ap (λ xs. set xs c.args.i facts) seat.looks ∙ sym (values_set (looked_in seat.seat.me.0.core.mode) c.args.i facts) ∙ sym (ap (λ (v : View). values_of (looked_in v.core.mode)) became.view)
 
 pub invariant_of-seat-clause-width : goal.invariant_of-seat-clause-width
 invariant_of-seat-clause-width c = λ q e.
     let words = c.args.self.now in
     let seat = c.args.seat.now in
-    let became = looked_became words.table.shared.key words.system.now seat.seat.me c.load-word.new.seat.me c.args.i c.load-word.result seat.place c.in-Some.p c.as_slice.result.now
-    c.requires.of.1 words.about_system c.in-Some.is seat.opens c.requires.open c.requires.input (c.as_slice.ensures ∙ c.inputs.ensures) c.load-word.ensures.2 in
+    let became = looked_became words.table.shared.key words.system.now seat.seat.me c.load-word.new.seat.me c.args.i c.load-word.result seat.place c.in-Some.p c.inputs.result.now
+    c.requires.of.1 words.about_system c.in-Some.is seat.opens c.requires.open c.requires.input c.inputs.ensures c.load-word.ensures.2 in
     length-set seat.looked.items c.args.i (bit_and c.load-word.result 140737488355327) ∙ seat.width q e ∙ sym (ap (λ (v : View). input_count v.about q) became.view)

@@ -1,4 +1,4 @@
-use Rattle.std.proofs.Common.{◌≡◌, ℕ, ◌<◌, ◌≤◌, List, length, replicate, Option, Some, None, ap, sym, ◌∙◌, subst, ne_eqb, arith}
+use Rattle.std.proofs.Common.{◌≡◌, ℕ, ◌<◌, ◌≤◌, List, length, replicate, Option, Some, None, ap, sym, ◌∙◌, refl, subst, ne_eqb, arith}
 use Rattle.std.specs.Prelude.{vec_capacity}
 use Rattle.std.proofs.lemmas.List.{length-replicate}
 use Rattle.attr_ids.specs.declared.ids.PosId.{PosId}
@@ -31,7 +31,7 @@ pub clear_to-requires : goal.clear_to-requires
 clear_to-requires c =
     let k : Key = c.args.self.now.table.shared.key in
     let room : most_inputs (Some k) ≤ vec_capacity c.args.seat.now.looked = subst (λ (o : Option Key). most_inputs o ≤ vec_capacity c.args.seat.now.looked) c.requires.of.1 c.args.seat.now.looked_room in
-    omega (arith, (long c.args.self.now.table.shared.key c.args.self.now.system.now c.args.p c.len.result c.inputs.result.now c.len.ensures c.inputs.ensures c.args.self.now.about_system), inputs_fit k c.args.p.0 (inside c.args.self.now.table.shared.key c.args.self.now.system.now c.args.p c.requires.position c.args.self.now.about_system), room)
+    omega (arith, (long c.args.self.now.table.shared.key c.args.self.now.system.now c.args.p (length c.inputs.result.now) c.inputs.result.now refl c.inputs.ensures c.args.self.now.about_system), inputs_fit k c.args.p.0 (inside c.args.self.now.table.shared.key c.args.self.now.system.now c.args.p c.requires.position c.args.self.now.about_system), room)
 
 about_now : (c : goal.After-clear_to) → c.fetch_and-word.new.seat.me.0.about ≡ Some c.args.self.now.table.shared.key
 about_now c = ap (λ (v : View). v.about) c.fetch_and-word.ensures.2.seat.view ∙ c.requires.of.1
@@ -46,11 +46,11 @@ invariant_of-seat-2-clause-opens c = ap place_in (sym (opened_now c))
 
 pub invariant_of-seat-2-clause-looks : goal.invariant_of-seat-2-clause-looks
 invariant_of-seat-2-clause-looks c =
-    c.clear_to.ensures.items ∙ ap (λ n. replicate n 0) (long c.args.self.now.table.shared.key c.args.self.now.system.now c.args.p c.len.result c.inputs.result.now c.len.ensures c.inputs.ensures c.args.self.now.about_system) ∙ sym (ap (λ m. values_of (looked_in m)) (opened_now c) ∙ no_values (length (inputs_of c.args.self.now.table.shared.key.system.value c.args.p.0)))
+    c.clear_to.ensures.items ∙ ap (λ n. replicate n 0) (long c.args.self.now.table.shared.key c.args.self.now.system.now c.args.p (length c.inputs.result.now) c.inputs.result.now refl c.inputs.ensures c.args.self.now.about_system) ∙ sym (ap (λ m. values_of (looked_in m)) (opened_now c) ∙ no_values (length (inputs_of c.args.self.now.table.shared.key.system.value c.args.p.0)))
 
 pub invariant_of-seat-2-clause-places : goal.invariant_of-seat-2-clause-places
 invariant_of-seat-2-clause-places c = λ q e. in_place c.args.self.now.table.shared.key _ c.args.p q (about_now c) (inside c.args.self.now.table.shared.key c.args.self.now.system.now c.args.p c.requires.position c.args.self.now.about_system) e
 
 pub invariant_of-seat-2-clause-width : goal.invariant_of-seat-2-clause-width
 invariant_of-seat-2-clause-width c =
-    λ q e. in_width c.args.self.now.table.shared.key _ c.args.p q (length c.clear_to.new.list.items) (about_now c) (ap length c.clear_to.ensures.items ∙ length-replicate c.len.result 0 ∙ (long c.args.self.now.table.shared.key c.args.self.now.system.now c.args.p c.len.result c.inputs.result.now c.len.ensures c.inputs.ensures c.args.self.now.about_system)) e
+    λ q e. in_width c.args.self.now.table.shared.key _ c.args.p q (length c.clear_to.new.list.items) (about_now c) (ap length c.clear_to.ensures.items ∙ length-replicate (length c.inputs.result.now) 0 ∙ (long c.args.self.now.table.shared.key c.args.self.now.system.now c.args.p (length c.inputs.result.now) c.inputs.result.now refl c.inputs.ensures c.args.self.now.about_system)) e
