@@ -1,6 +1,5 @@
 -- Lists of uses that grow in text order.
-use Rattle.std.proofs.Common.{◌≡◌, ◌+◌, ◌^◌, ◌<◌, ◌≤◌, ◌⊎◌, inl, inr, ℕ, zero, suc, length, slice_get, slice_set, take, List, [], ◌∷◌, ◌++◌, Some, arith, refl, subst, sym, ap, ◌∙◌, ⊎_elim}
-use Rattle.std.proofs.lemmas.List.{take_all, take-append-le}
+use Rattle.std.proofs.Common.{◌≡◌, ◌+◌, ◌^◌, ◌<◌, ◌≤◌, ◌⊎◌, inl, inr, ℕ, zero, suc, length, slice_get, slice_set, List, [], ◌∷◌, ◌++◌, Some, arith, refl, subst, sym, ap, ◌∙◌, ⊎_elim}
 use Rattle.std.proofs.lemmas.Option.{slice_get_within}
 use Rattle.std.proofs.lemmas.Bool.{cases_eq, cases_lt}
 use Rattle.ir_types.proofs.Standings.{get_set_same, get_set_other}
@@ -37,10 +36,6 @@ get_cases [] x y zero h = inr (refl, (cc))
 get_cases [] x y (suc k) h = cc
 get_cases (z ∷ xs) x y zero h = inl h
 get_cases (z ∷ xs) x y (suc k) h = elim (get_cases xs x y k h) [ inl e ↦ inl e | inr e ↦ inr (omega (arith, e.0), e.1) ]
-
--- a slice that was written as a whole
-pub written_whole : {X : Type 0} → (n : ℕ) (xs rest : List X) → n ≡ length xs → take n (xs ++ rest) ≡ xs
-written_whole n xs rest e = take-append-le n xs rest (omega (arith, e)) ∙ take_all n xs (omega (arith, e))
 
 -- ---- the order of uses
 

@@ -5,23 +5,27 @@ ghost use Rattle.ir_module.specs.Places.{instr_at};
 ghost use Rattle.ir_uses.specs.Noted.{call_at, AreCallListsTo};
 ghost use Rattle.ir_uses.specs.Uses.{IsCallList};
 
-use crate::lists::{CallList, CallSite};
-use attr_ids::{NoMemory, SegId, Sequence};
-use ir_module::{Module, direct_callee, instr_at};
+use crate::lists::CallSite;
+use attr_ids::{NoMemory, SegId};
+use ir_module::{Module, Seg, direct_callee, instr_at};
+use row_lists::Rows;
 use std::alloc::Global;
 
 /// Puts a call at the end of a function's list.
-fn note(lists: &mut [CallList], at: usize, here: CallSite) -> Result<(), NoMemory>
+fn note(lists: &mut Rows<CallSite>, at: usize, here: CallSite) -> Result<(), NoMemory>
     requires { at < length lists.old }
     ensures { OnOk result ((cs : List CallSite) → slice_get lists.old at ≡ Some cs → lists.new ≡ slice_set lists.old at (cs ++ here ∷ [])) }
 {
-    let list = &mut lists[at];
-    list.push(here)?;
-    Ok(())
+    lists.push(at, here)
 }
 
 /// Notes an instruction, if it is a direct call.
-fn note_instr(m: &Module, lists: &mut [CallList], seg: SegId, index: u32) -> Result<(), NoMemory>
+fn note_instr(
+    m: &Module,
+    lists: &mut Rows<CallSite>,
+    seg: SegId,
+    index: u32,
+) -> Result<(), NoMemory>
     requires few { HasFew m.now }
     requires there { IsSome (instr_at m.now (record { seg = seg.0; at = index })) }
     requires lists { AreCallListsTo m.now (call_at seg.0 index) lists.old }
@@ -37,7 +41,7 @@ fn note_instr(m: &Module, lists: &mut [CallList], seg: SegId, index: u32) -> Res
 }
 
 /// Notes the direct calls of a segment.
-fn note_seg(m: &Module, lists: &mut [CallList], seg: SegId) -> Result<(), NoMemory>
+fn note_seg(m: &Module, lists: &mut Rows<CallSite>, seg: SegId) -> Result<(), NoMemory>
     requires few { HasFew m.now }
     requires there { seg.0 < length m.now.segs }
     requires lists { AreCallListsTo m.now (call_at seg.0 0) lists.old }
@@ -51,7 +55,7 @@ fn note_seg(m: &Module, lists: &mut [CallList], seg: SegId) -> Result<(), NoMemo
 }
 
 /// Notes the direct calls of the module.
-fn note_module(m: &Module, lists: &mut [CallList]) -> Result<(), NoMemory>
+fn note_module(m: &Module, lists: &mut Rows<CallSite>) -> Result<(), NoMemory>
     requires few { HasFew m.now }
     requires lists { AreCallListsTo m.now (call_at 0 0) lists.old }
     ensures { OnOk result (AreCallListsTo m.now (call_at (length m.now.segs) 0) lists.new) }
@@ -62,23 +66,53 @@ fn note_module(m: &Module, lists: &mut [CallList]) -> Result<(), NoMemory>
     Ok(())
 }
 
-/// An empty list for each of so many functions.
-fn empty_lists(alloc: Global, count: usize) -> Result<Vec<CallList>, NoMemory>
-    ensures { IfOk result (λ lists. (f : ℕ) → f < count → slice_get lists.items f ≡ Some []) }
+/// Counts one more call of a function. A count says how much room to take, so it may stop rising.
+fn count(counts: &mut [u32], at: usize)
+    requires { at < length counts.old }
 {
-    let mut lists = Vec::with_capacity(alloc, count)?;
-    for _ in 0..count {
-        lists.push(Sequence::new(alloc))?;
+    counts[at] = counts[at].saturating_add(1);
+}
+
+/// Counts the direct calls of a segment.
+fn count_seg(m: &Module, counts: &mut [u32], seg: &Seg)
+    requires { length counts.old ≡ length m.now.funcs }
+{
+    for instr in seg.instrs.as_slice() {
+        if let Some(f) = direct_callee(m, &instr.op) {
+            count(counts, f.0 as usize);
+        }
     }
-    Ok(lists)
+}
+
+/// How many direct calls each function has.
+fn call_counts(alloc: Global, m: &Module) -> Result<Vec<u32>, NoMemory>
+    ensures { IfOk result (λ counts. length counts.items ≡ length m.now.funcs) }
+{
+    let mut counts = vec![in alloc; 0u32; m.funcs.len()]?;
+    for seg in m.segs.as_slice() {
+        count_seg(m, &mut counts, seg);
+    }
+    Ok(counts)
+}
+
+/// An empty list for each function, with room for its direct calls.
+fn empty_lists(alloc: Global, m: &Module) -> Result<Rows<CallSite>, NoMemory>
+    ensures { IfOk result (λ lists. (f : ℕ) → f < length m.now.funcs → slice_get lists f ≡ Some []) }
+{
+    let no_call = CallSite {
+        seg: SegId(0),
+        index: 0,
+    };
+    let counts = call_counts(alloc, m)?;
+    Rows::with_rooms(alloc, &counts, no_call)
 }
 
 /// The direct calls of each function.
-pub(crate) fn callers(alloc: Global, m: &Module) -> Result<Sequence<CallList>, NoMemory>
+pub(crate) fn callers(alloc: Global, m: &Module) -> Result<Rows<CallSite>, NoMemory>
     requires { HasFew m.now }
     ensures { IfOk result (λ lists. (f : ℕ) → f < length m.now.funcs → (cs : List CallSite) × (slice_get lists f ≡ Some cs) × IsCallList m.now f cs) }
 {
-    let mut lists = empty_lists(alloc, m.funcs.len())?;
+    let mut lists = empty_lists(alloc, m)?;
     note_module(m, &mut lists)?;
-    Ok(Sequence::from_vec(lists))
+    Ok(lists)
 }

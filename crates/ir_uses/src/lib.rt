@@ -14,5 +14,5 @@ mod use_lists;
 mod values;
 
 pub use gather::uses;
-pub use lists::{CallList, CallSite, Use, UseList};
+pub use lists::{CallSite, Use};
 pub use use_lists::Uses;

@@ -1,4 +1,4 @@
-use attr_ids::{SegId, Sequence};
+use attr_ids::SegId;
 
 /// A use of a value: operand number `operand` of instruction number `index` of a segment, both from 0.
 #[derive(Clone, Copy, Debug, PartialEq, Eq)]
@@ -14,7 +14,3 @@ pub struct CallSite {
     pub seg: SegId,
     pub index: u32,
 }
-
-pub type UseList = Sequence<Use>;
-
-pub type CallList = Sequence<CallSite>;

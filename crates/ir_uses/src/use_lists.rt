@@ -1,32 +1,33 @@
 ghost use Rattle.std.specs.Prelude.{◌≡◌, ◌<◌, length, slice_get, Some};
 
-use crate::lists::{CallList, UseList};
+use crate::lists::{CallSite, Use};
 use attr_ids::{FuncId, Sequence, ValueId};
+use row_lists::Rows;
 
 /// The use lists of a module.
 #[derive(Debug, Drop)]
 pub struct Uses {
-    pub(crate) values: Sequence<UseList>,
-    pub(crate) callers: Sequence<CallList>,
+    pub(crate) values: Rows<Use>,
+    pub(crate) callers: Rows<CallSite>,
     /// For each function, whether it is an open body.
     pub(crate) bodies: Sequence<bool>,
 }
 
 impl Uses {
     /// The uses of a value, each once and in text order.
-    pub fn of_value(&self, v: ValueId) -> &UseList
+    pub fn of_value(&self, v: ValueId) -> &[Use]
         requires { v.0 < length self.now.values }
         ensures { slice_get self.now.values v.0 ≡ Some result.now }
     {
-        &self.values.as_slice()[v.0 as usize]
+        self.values.get(v.0 as usize)
     }
 
     /// The direct calls of a function, each once and in text order.
-    pub fn callers(&self, f: FuncId) -> &CallList
+    pub fn callers(&self, f: FuncId) -> &[CallSite]
         requires { f.0 < length self.now.callers }
         ensures { slice_get self.now.callers f.0 ≡ Some result.now }
     {
-        &self.callers.as_slice()[f.0 as usize]
+        self.callers.get(f.0 as usize)
     }
 
     /// Whether a function is an open body: it is defined, and it is seen from outside or its address is taken.
