@@ -1,0 +1,10 @@
+pub mod Remains
+pub mod LongestInstr
+pub mod LongestOperations
+pub mod LongestMemory
+pub mod LongestCalls
+pub mod LongestLanding
+pub mod Offsets
+pub mod Sequences
+pub mod LongestTerms
+pub mod LongestBlocks
