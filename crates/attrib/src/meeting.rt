@@ -2,13 +2,17 @@
 ghost use Rattle.std.specs.Prelude.{◌≤◌};
 
 use crate::{Annotated, Emit, annotate};
-use attr_ids::Text;
+use attr_ids::{PosId, Text, WordList, WorkerEnd};
 use attr_io::Gate;
+use closing_pass::close;
+use dep_graph::dependents;
+use rule_terms::{NewTerm, System};
 use std::alloc::Global;
 use std::process::Abort;
 use std::sync::atomic::{AtomicBool, AtomicU64, Ordering};
 use std::test::Fail;
 use std::thread::Threads;
+use workers::run_all;
 
 /// Functions of which each calls the next one, and the last one the first.
 fn ring(alloc: Global, functions: u32) -> Result<Text, Fail> {
@@ -169,5 +173,26 @@ fn a_held_worker_changes_nothing(rt: HostRuntime) -> Result<(), Fail> {
         held(&rt, alloc, text.as_slice(), workers, 0, wanted.as_slice())?;
         held(&rt, alloc, text.as_slice(), workers, 1, wanted.as_slice())?;
     }
+    Ok(())
+}
+
+/// One worker has two words to take up and one turn; what it leaves is closed to the greatest words, which
+/// have nothing left, since the first word reads the second, of which the rule leaves nothing.
+#[test]
+fn what_a_spent_worker_leaves_is_closed(rt: HostRuntime) -> Result<(), Fail> {
+    let alloc = rt.alloc();
+    let mut system = System::new(alloc, WordList::from_slice(alloc, &[0b1, 0b1])?)?;
+    system.meet(alloc, PosId(0), NewTerm::Word(PosId(1)))?;
+    system.meet(alloc, PosId(1), NewTerm::Const(0))?;
+    let graph = dependents(alloc, &system)?;
+    let gate = Turns {
+        count: AtomicU64::new(0),
+    };
+    let ran = run_all(&rt, alloc, &system, &graph, 1, 1, &gate)?;
+    assert_eq!(&rt; gate.count.load(Ordering::SeqCst), 1);
+    assert!(&rt; ran.ends.as_slice() == [WorkerEnd::Spent].as_slice());
+    assert!(&rt; ran.words.as_slice() != [0, 0].as_slice());
+    let closed = close(&system, ran.words, &ran.ends);
+    assert!(&rt; closed.as_slice() == [0, 0].as_slice());
     Ok(())
 }
