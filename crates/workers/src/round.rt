@@ -20,6 +20,7 @@ fn draw_hints<G: Gate>(
     shift: &Shift<G>,
     seat: &mut WorkerSeat,
     own: &mut OwnPool,
+    held: &mut u32,
     mut taken: u64,
 ) -> u64
     requires ready { IsReady shift.now.words.now seat.old }
@@ -33,8 +34,12 @@ fn draw_hints<G: Gate>(
         if taken == shift.turns {
             break;
         }
-        let Some(p) = own.draw() else { break };
-        if attempt(shift, seat, own, p, taken + 1) {
+        let Some(p) = own.draw() else {
+            *held = 0;
+            break;
+        };
+        *held = held.saturating_sub(1);
+        if attempt(shift, seat, own, held, p, taken + 1) {
             taken += 1;
         }
     }
@@ -46,6 +51,7 @@ fn rob_pools<G: Gate>(
     shift: &Shift<G>,
     seat: &mut WorkerSeat,
     own: &mut OwnPool,
+    held: &mut u32,
     robber: &mut Robber,
     mut taken: u64,
 ) -> u64
@@ -68,7 +74,7 @@ fn rob_pools<G: Gate>(
         let Robbed::Got { p } = robber.rob(from as u8) else {
             continue;
         };
-        if attempt(shift, seat, own, p, taken + 1) {
+        if attempt(shift, seat, own, held, p, taken + 1) {
             taken += 1;
         }
     }
@@ -81,6 +87,7 @@ fn visit<G: Gate>(
     shift: &Shift<G>,
     seat: &mut WorkerSeat,
     own: &mut OwnPool,
+    held: &mut u32,
     p: PosId,
     number: u64,
 ) -> bool
@@ -93,12 +100,18 @@ fn visit<G: Gate>(
     if shift.words.clear(seat, p) {
         return false;
     }
-    attempt(shift, seat, own, p, number)
+    attempt(shift, seat, own, held, p, number)
 }
 
 /// Looks through all words for the seat's own dirty bits, and takes up the words that have one. Where there was
 /// none, the seat knows every position.
-fn scan<G: Gate>(shift: &Shift<G>, seat: &mut WorkerSeat, own: &mut OwnPool, mut taken: u64) -> u64
+fn scan<G: Gate>(
+    shift: &Shift<G>,
+    seat: &mut WorkerSeat,
+    own: &mut OwnPool,
+    held: &mut u32,
+    mut taken: u64,
+) -> u64
     requires ready { IsReady shift.now.words.now seat.old }
     requires pool { IsPoolOf (count_in shift.now.words.now) own.old }
     requires turns { taken < shift.now.turns }
@@ -111,7 +124,7 @@ fn scan<G: Gate>(shift: &Shift<G>, seat: &mut WorkerSeat, own: &mut OwnPool, mut
         if taken == shift.turns {
             break;
         }
-        if visit(shift, seat, own, PosId(p), taken + 1) {
+        if visit(shift, seat, own, held, PosId(p), taken + 1) {
             taken += 1;
         }
     }
@@ -123,6 +136,7 @@ pub(crate) fn round<G: Gate>(
     shift: &Shift<G>,
     seat: &mut WorkerSeat,
     own: &mut OwnPool,
+    held: &mut u32,
     robber: &mut Robber,
     taken: u64,
 ) -> u64
@@ -136,10 +150,10 @@ pub(crate) fn round<G: Gate>(
     ensures pool { IsPoolOf (count_in shift.now.words.now) own.new }
     ensures robber { IsRobberOf (workers_in shift.now.words.now) (count_in shift.now.words.now) robber.new }
 {
-    let drawn = draw_hints(shift, seat, own, taken);
-    let robbed = rob_pools(shift, seat, own, robber, drawn);
+    let drawn = draw_hints(shift, seat, own, held, taken);
+    let robbed = rob_pools(shift, seat, own, held, robber, drawn);
     if robbed > taken {
         return robbed;
     }
-    scan(shift, seat, own, robbed)
+    scan(shift, seat, own, held, robbed)
 }

@@ -2,6 +2,7 @@
 ghost use Rattle.std.specs.Prelude.{◌≡◌, ◌+◌, ◌++◌, ◌∷◌, ◌<◌, [], true, length, MatchBool};
 ghost use Rattle.rule_terms.specs.System.{IsSystem};
 ghost use Rattle.fix_core.specs.declared.state.CoreMode.TheVariants.{Idle};
+ghost use Rattle.steal_pool.specs.Pools.{own_log};
 ghost use Rattle.fix_core.specs.Machine.{has_all, owing};
 ghost use Rattle.word_rule.specs.Views.{looked_in, owed_in};
 ghost use Rattle.word_rule.specs.Belongs.{core_of, system_in, IsSeatOf, IsSameSeat};
@@ -20,6 +21,8 @@ pub(crate) struct Shift<'a, 's, G> {
     pub turns: u64,
     pub gate: &'a G,
     pub count: u32,
+    /// The most hints that the worker's own pool is to hold.
+    pub most: u32,
     ghost counted: { count ≡ count_in words.now },
     ghost system: { IsSystem (system_in words.now) },
 }
@@ -41,8 +44,26 @@ fn look_all(words: &LatticeWords, seat: &mut WorkerSeat, p: PosId)
     }
 }
 
-/// Tells every position that the seat owes, and gives each that was not told before to the worker's own pool.
-fn tell_all(words: &LatticeWords, seat: &mut WorkerSeat, own: &mut OwnPool)
+/// Gives a hint to the worker's own pool, unless the pool holds as many as it is to.
+fn hint(own: &mut OwnPool, held: &mut u32, most: u32, d: PosId)
+    requires { d.0 < (own_log own.old).count }
+    ensures { (own_log own.new).count ≡ (own_log own.old).count }
+{
+    if *held < most {
+        own.give(d);
+        *held += 1;
+    }
+}
+
+/// Tells every position that the seat owes, and gives each that was not told before to the worker's own pool, unless
+/// the pool holds as many as it is to. A hint that is not given is found by a look through all words.
+fn tell_all(
+    words: &LatticeWords,
+    seat: &mut WorkerSeat,
+    own: &mut OwnPool,
+    held: &mut u32,
+    most: u32,
+)
     requires of { IsSeatOf words.now seat.old }
     requires owing { (core_of seat.old).mode ≡ owing (owed_in (core_of seat.old).mode) }
     requires pool { IsPoolOf (count_in words.now) own.old }
@@ -53,13 +74,20 @@ fn tell_all(words: &LatticeWords, seat: &mut WorkerSeat, own: &mut OwnPool)
 {
     while let Some(d) = words.owed(seat) {
         if words.tell(seat, d) {
-            own.give(d);
+            hint(own, held, most, d);
         }
     }
 }
 
 /// One turn with the position that the seat took up. The gate hears of it before the first look.
-fn turn<G: Gate>(shift: &Shift<G>, seat: &mut WorkerSeat, own: &mut OwnPool, p: PosId, number: u64)
+fn turn<G: Gate>(
+    shift: &Shift<G>,
+    seat: &mut WorkerSeat,
+    own: &mut OwnPool,
+    held: &mut u32,
+    p: PosId,
+    number: u64,
+)
     requires of { IsSeatOf shift.now.words.now seat.old }
     requires position { p.0 < count_in shift.now.words.now }
     requires open { HasOpen (system_in shift.now.words.now) p (core_of seat.old) }
@@ -73,7 +101,7 @@ fn turn<G: Gate>(shift: &Shift<G>, seat: &mut WorkerSeat, own: &mut OwnPool, p: 
     look_all(shift.words, seat, p);
     let new = shift.words.value(seat);
     shift.words.cut(seat, new);
-    tell_all(shift.words, seat, own);
+    tell_all(shift.words, seat, own, held, shift.most);
 }
 
 /// Takes the position up if it is dirty, and does the turn of this number with it. Answers whether it did. Where
@@ -82,6 +110,7 @@ pub(crate) fn attempt<G: Gate>(
     shift: &Shift<G>,
     seat: &mut WorkerSeat,
     own: &mut OwnPool,
+    held: &mut u32,
     p: PosId,
     number: u64,
 ) -> bool
@@ -94,6 +123,6 @@ pub(crate) fn attempt<G: Gate>(
     if shift.words.take(seat, p).is_none() {
         return false;
     }
-    turn(shift, seat, own, p, number);
+    turn(shift, seat, own, held, p, number);
     true
 }

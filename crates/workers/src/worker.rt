@@ -12,6 +12,13 @@ use attr_io::Gate;
 use steal_pool::{OwnPool, Robber};
 use word_rule::{LatticeWords, WorkerSeat};
 
+/// The most hints that a worker's own pool is to hold, where so many workers have a pool each. All pools together
+/// hold at most one for every four positions, or few.
+fn most_hints(count: u32, pools: usize) -> u32 {
+    let pools = pools.clamp(1, 16) as u32;
+    (count / 4 / pools).max(1024)
+}
+
 /// Goes round after round until a round takes no dirty word up, and does at most so many turns.
 pub fn run_worker<G: Gate>(
     words: &LatticeWords,
@@ -39,11 +46,13 @@ pub fn run_worker<G: Gate>(
         turns,
         gate,
         count: words.system().count(),
+        most: most_hints(words.system().count(), robber.pool_count()),
     };
+    let mut held = 0;
     let mut taken = 0;
     while taken < turns {
         let before = taken;
-        taken = round(&shift, seat, own, robber, taken);
+        taken = round(&shift, seat, own, &mut held, robber, taken);
         if taken == before {
             return WorkerEnd::Done;
         }

@@ -5,8 +5,8 @@ use Rattle.workers.proofs.Seating.{seat_again}
 use Rattle.workers.proofs.Telling.{first_owed, owed_inside, owes_less}
 use Rattle.workers.proofs.turn.tell_all.Goals as goal
 
-pub give-requires : goal.give-requires
-give-requires c =
+pub hint-requires : goal.hint-requires
+hint-requires c =
     let words = c.args.words.now in
     let d = c.in-Some.d in
     let of : IsSeatOf words c.loop-d.seat = seat_again words c.args.seat.now c.loop-d.seat c.loop-d.invariant.0 c.requires.of in
