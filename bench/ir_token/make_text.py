@@ -1,7 +1,10 @@
 #!/usr/bin/env python3
 """Writes a text of a module, shaped like what clang writes for plain C without optimisation.
 
-usage: make_text.py BYTES > FILE        (64 MiB are 67108864)
+usage: make_text.py BYTES [PIECE] > FILE        (64 MiB are 67108864)
+
+With a PIECE the text is that piece again and again: `!a `, `$a `, `!0=!{` and `#dbg_x(` are texts in
+which a scanner that looks ahead twice would take a time that grows by the square.
 
 The shapes of the lines, and how often each comes, are those of clang's output: stack slots, loads and
 stores with `align`, calls, compares, branches with labels behind a `; preds` comment, debug locations,
@@ -61,6 +64,10 @@ def body(rng, f):
 
 def main():
     size = int(sys.argv[1])
+    if len(sys.argv) > 2:
+        piece = sys.argv[2]
+        sys.stdout.write(piece * (size // len(piece)))
+        return
     rng = random.Random(1)
     tail = ["declare i32 @printf(ptr noundef, ...) #4\n\n"]
     for group in range(5):

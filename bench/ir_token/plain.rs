@@ -19,6 +19,9 @@ const KEPT_NAMES: [&[u8]; 2] = [b"llvm.lifetime.start.p0", b"llvm.lifetime.end.p
 fn is_label(c: u8) -> bool { c.is_ascii_alphanumeric() || matches!(c, b'_' | b'.' | b'$' | b'-') }
 fn is_word(c: u8) -> bool { c.is_ascii_alphanumeric() || matches!(c, b'_' | b'.') }
 
+fn is_blank(c: u8) -> bool { matches!(c, b' ' | b'\t' | b'\r' | b'\n') }
+fn is_meta(c: u8) -> bool { is_label(c) || c == b'\\' }
+
 fn run(b: &[u8], mut i: usize, class: impl Fn(u8) -> bool) -> usize {
     while i < b.len() && class(b[i]) { i += 1; }
     i
@@ -79,28 +82,85 @@ fn left_name(name: &[u8]) -> bool {
 
 fn gap(b: &[u8], mut i: usize) -> usize {
     loop {
-        i = run(b, i, |c| matches!(c, b' ' | b'\t' | b'\r' | b'\n'));
+        i = run(b, i, is_blank);
         if byte(b, i) != b';' { return i; }
-        i = run(b, i, |c| c != b'\n');
+        i = run(b, i, |c| c != b'\n' && c != b'\r');
     }
 }
 
-fn opaque(b: &[u8], i: usize) -> bool {
+fn meta(b: &[u8], i: usize) -> usize {
+    if byte(b, i).is_ascii_digit() { run(b, i, |c| c.is_ascii_digit()) } else { run(b, i, is_meta) }
+}
+
+/// The end of the closed part at i.
+fn closed(b: &[u8], i: usize) -> Option<usize> {
+    if !matches!(byte(b, i), b'(' | b'{') { return None; }
+    let (mut at, mut open, mut quoted) = (i + 1, 1u64, false);
+    while at < b.len() {
+        let c = b[at];
+        at += 1;
+        if quoted { quoted = c != b'"'; continue; }
+        match c {
+            b'"' => quoted = true,
+            b';' | b'/' => return None,
+            b'(' | b'[' | b'{' | b'<' => open += 1,
+            b')' | b']' | b'}' | b'>' => { open -= 1; if open == 0 { return Some(at); } }
+            _ => {}
+        }
+    }
+    None
+}
+
+/// The end of the Opaque at i: none where none begins, an error where it has no end.
+fn opaque(b: &[u8], i: usize) -> Result<Option<usize>, ()> {
     match b[i] {
-        b'!' | b'$' => i == 0 || b[i - 1] == b'\n',
-        b'#' => b[i..].starts_with(b"#dbg_") && {
-            let mut j = i;
-            while j > 0 && matches!(b[j - 1], b' ' | b'\t') { j -= 1; }
-            j == 0 || b[j - 1] == b'\n'
-        },
-        _ => false,
+        b'!' => {
+            let name = meta(b, i + 1);
+            let equals = run(b, name, is_blank);
+            if name == i + 1 || byte(b, equals) != b'=' { return Ok(None); }
+            let mut mark = run(b, equals + 1, is_blank);
+            if b[mark..].starts_with(b"distinct") { mark = run(b, mark + 8, is_blank); }
+            if byte(b, mark) != b'!' { return Err(()); }
+            closed(b, run(b, mark + 1, is_meta)).map(Some).ok_or(())
+        }
+        b'#' if b[i..].starts_with(b"#dbg_") => closed(b, run(b, i + 5, is_word)).map(Some).ok_or(()),
+        b'$' => {
+            let Ok(Some(end)) = name(b, i + 1) else { return Ok(None) };
+            let equals = run(b, end, is_blank);
+            if byte(b, equals) != b'=' { return Ok(None); }
+            let word = run(b, equals + 1, is_blank);
+            if !b[word..].starts_with(b"comdat") || !is_blank(byte(b, word + 6)) { return Ok(None); }
+            let choice = run(b, word + 6, is_blank);
+            let letter = byte(b, choice);
+            Ok((letter.is_ascii_alphabetic() || letter == b'_').then(|| run(b, choice, is_word)))
+        }
+        _ => Ok(None),
     }
 }
 
+/// Whether the bytes write a name.
+fn named(z: &[u8]) -> bool {
+    if z.iter().all(u8::is_ascii_digit) { return z.len() <= 9; }
+    if z[0] != b'"' { return true; }
+    let read = read(&z[1..z.len() - 1]);
+    !read.is_empty() && !read.contains(&0)
+}
+
+/// The token at i, which bears a name where its kind has one.
 fn token(b: &[u8], i: usize, labels: &mut usize) -> Result<(Kind, usize), Refusal> {
+    let (kind, end) = longest(b, i, labels)?;
+    let good = match kind {
+        Kind::Global | Kind::Local | Kind::Comdat | Kind::Group => named(&b[i + 1..end]),
+        Kind::Label => named(&b[i..end - 1]),
+        _ => true,
+    };
+    if good { Ok((kind, end)) } else { Err(Refusal::BadByte(i as u32)) }
+}
+
+fn longest(b: &[u8], i: usize, labels: &mut usize) -> Result<(Kind, usize), Refusal> {
     let bad = Refusal::BadByte(i as u32);
     let open = |()| Refusal::OpenString(i as u32);
-    if opaque(b, i) { return Ok((Kind::Opaque, run(b, i, |c| c != b'\n'))); }
+    match opaque(b, i) { Ok(None) => {} Ok(Some(end)) => return Ok((Kind::Opaque, end)), Err(()) => return Err(bad) }
     let first = b[i];
     if is_label(first) {
         if *labels <= i { *labels = run(b, i, is_label); }
@@ -117,7 +177,7 @@ fn token(b: &[u8], i: usize, labels: &mut usize) -> Result<(Kind, usize), Refusa
         }
         b'c' if byte(b, i + 1) == b'"' => Ok((Kind::CStr, string(b, i + 1).map_err(open)?.unwrap_or(i))),
         b'#' => match run(b, i + 1, |c| c.is_ascii_digit()) { end if end > i + 1 => Ok((Kind::Group, end)), _ => Err(bad) },
-        b'!' => match run(b, i + 1, |c| is_label(c) || c == b'\\') { end if end > i + 1 => Ok((Kind::Meta, end)), _ => Err(bad) },
+        b'!' => match meta(b, i + 1) { end if end > i + 1 => Ok((Kind::Meta, end)), _ => Err(bad) },
         b'-' => match run(b, i + 1, |c| c.is_ascii_digit()) { end if end > i + 1 => Ok((Kind::Int, end)), _ => Err(bad) },
         b'.' if b[i..].starts_with(b"...") => Ok((Kind::Dots, i + 3)),
         b'(' | b')' | b'[' | b']' | b'{' | b'}' | b'<' | b'>' | b',' | b'=' => Ok((Kind::Punct, i + 1)),

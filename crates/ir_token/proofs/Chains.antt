@@ -22,7 +22,8 @@ pub record IsScanned (limit : ℕ) (b : Bytes) (items : List Token) (count at : 
 abbrev pub make : Kind → ℕ → ℕ → Token
 make k i e = record { kind = k; span = record { from = i; to = e } }
 
-pub reaches_push : (b : Bytes) (ts : List Token) (from at : ℕ) (k : Kind) (e : ℕ) → Reaches b from ts at → IsToken b at k e → (IsLeft b at k e → ⊥) → Reaches b from (ts ++ make k at e ∷ []) (past_gap b e)
+pub reaches_push : (b : Bytes) (ts : List Token) (from at : ℕ) (k : Kind) (e : ℕ) → Reaches b from ts at → IsToken b at k e → (IsLeft b at k e → ⊥)
+    → Reaches b from (ts ++ make k at e ∷ []) (past_gap b e)
 reaches_push b [] from at k e reach token kept = (reach, token, kept, refl)
 reaches_push b (t ∷ ts) from at k e reach token kept = (reach.0, reach.1, reach.2, reaches_push b ts t.span.to at k e reach.3 token kept)
 
@@ -30,7 +31,8 @@ pub scanned_none : (limit : ℕ) (b : Bytes) (at : ℕ) → at ≡ past_gap b 0 
 scanned_none limit b at start = record { tokens = []; chain = start; counted = refl; kept = λ _. refl }
 
 -- one more token, which is kept where there is room
-pub scanned_kept : (limit : ℕ) (b : Bytes) (items : List Token) (count at : ℕ) (k : Kind) (e : ℕ) → IsScanned limit b items count at → IsToken b at k e → (IsLeft b at k e → ⊥)
+pub scanned_kept : (limit : ℕ) (b : Bytes) (items : List Token) (count at : ℕ) (k : Kind) (e : ℕ) → IsScanned limit b items count at → IsToken b at k e
+    → (IsLeft b at k e → ⊥)
     → IsScanned limit b (items ++ make k at e ∷ []) (count + 1) (past_gap b e)
 scanned_kept limit b items count at k e h token kept = record {
   tokens = h.tokens ++ make k at e ∷ [];
@@ -39,7 +41,8 @@ scanned_kept limit b items count at k e h token kept = record {
   kept = λ small. ap (λ xs. xs ++ make k at e ∷ []) (h.kept (omega arith));
 }
 
-pub scanned_counted : (limit : ℕ) (b : Bytes) (items : List Token) (count at : ℕ) (k : Kind) (e : ℕ) → limit ≤ count → IsScanned limit b items count at → IsToken b at k e → (IsLeft b at k e → ⊥)
+pub scanned_counted : (limit : ℕ) (b : Bytes) (items : List Token) (count at : ℕ) (k : Kind) (e : ℕ) → limit ≤ count → IsScanned limit b items count at
+    → IsToken b at k e → (IsLeft b at k e → ⊥)
     → IsScanned limit b items (count + 1) (past_gap b e)
 scanned_counted limit b items count at k e full h token kept = record {
   tokens = h.tokens ++ make k at e ∷ [];
@@ -55,4 +58,5 @@ run_stays b at later run from is within inside = past_later is_label b at later 
 -- each token is a stretch of the text that is not empty
 pub spans_within : (b : Bytes) (ts : List Token) (at to : ℕ) → Reaches b at ts to → All (IsWithin b) ts
 spans_within b [] at to h = All-nil (IsWithin b)
-spans_within b (t ∷ ts) at to h = All-cons (IsWithin b) t ts (token_moves b t.span.from t.kind t.span.to h.1, h.1.within) (spans_within b ts t.span.to to h.3)
+spans_within b (t ∷ ts) at to h = All-cons (IsWithin b) t ts (token_moves b t.span.from t.kind t.span.to h.1, h.1.longest.within)
+    (spans_within b ts t.span.to to h.3)

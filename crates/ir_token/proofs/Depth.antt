@@ -30,4 +30,5 @@ pub depth_more : (b : Bytes) (o : ℕ) (ts us : List Token) (i mark : ℕ) (d : 
     → mark ≡ mark_at b (get_or us i d).kind (get_or us i d).span.from → deepest b o (drop i ts) ≡ max o (deepest b (then_open o mark) (drop (i + 1) ts))
 depth_more b o ts us i mark d same h is =
     let front : drop i us ≡ get_or us i d ∷ drop (i + 1) us = rw (add-one i) (drop-cons us i d h) in
-    subst (λ xs. deepest b o (drop i xs) ≡ max o (deepest b (then_open o mark) (drop (i + 1) xs))) same (subst (λ m. deepest b o (drop i us) ≡ max o (deepest b (then_open o m) (drop (i + 1) us))) (sym is) (ap (deepest b o) front))
+    subst (λ xs. deepest b o (drop i xs) ≡ max o (deepest b (then_open o mark) (drop (i + 1) xs))) same
+    (subst (λ m. deepest b o (drop i us) ≡ max o (deepest b (then_open o m) (drop (i + 1) us))) (sym is) (ap (deepest b o) front))

@@ -1,14 +1,18 @@
 -- What a string is read as, one escape after another.
 use Rattle.std.proofs.Common.{◌≡◌, ℕ, suc, ◌+◌, ◌-◌, ◌*◌, ◌<◌, ◌≤◌, min, Bool, true, false, cond, ◌&&◌, ◌⊎◌, inl, inr, eqb, ltb, [], ◌∷◌, length, get_or, take, drop, refl, sym, ap, ◌∙◌, ⊎_elim, add-one, arith, drop-cons, get_or-drop}
-use Rattle.std.proofs.lemmas.Bool.{cases_lt, ne_eqb}
+use Rattle.std.proofs.lemmas.Bool.{cases_lt, ne_eqb, and_parts}
 use Rattle.std.proofs.lemmas.Bool.Decides.{nat_tests}
 use Rattle.std.proofs.lemmas.List.{drop_all}
 use Rattle.std.specs.List.{slice_index}
 use Rattle.std.specs.Char.{digit_value}
 use Rattle.std.specs.Str.{bytes_eq}
 use Rattle.ir_token.specs.Bytes.{Bytes}
-use Rattle.ir_token.specs.Names.{begins_hex, hex_byte, unescaped_after, unescaped, name_of, read}
-use Rattle.ir_token.specs.LeftOut.{begins_with}
+use Rattle.std.specs.Char.{is_ascii_digit}
+use Rattle.std.specs.List.{list_all}
+use Rattle.std.specs.Str.Parse.{digits_value}
+use Rattle.ir_token.specs.Names.{begins_hex, hex_byte, unescaped_after, unescaped, bytes_of, name_of, read}
+use Rattle.ir_token.specs.Names.Name.{Number, Bytes as Spelled}
+use Rattle.ir_token.specs.LeftOut.{begins_with, are_left, is_left_name}
 
 front : (z : Bytes) (i : ℕ) → i < length z → drop i z ≡ get_or z i 0 ∷ drop (i + 1) z
 front z i h = rw (add-one i) (drop-cons z i 0 h)
@@ -52,32 +56,42 @@ third_way s t u a b c d p q r = ap (λ x. cond x (cond t a (cond u b c)) d) p �
 behind : (z : Bytes) (i k n : ℕ) → i + 1 + k ≡ n → slice_index (drop (i + 1) z) k ≡ slice_index z n
 behind z i k n same = at_front z (i + 1) k ∙ ap (slice_index z) same
 
-pub read_backslash : (z : Bytes) (i : ℕ) → slice_index z i ≡ 92 → slice_index z (i + 1) ≡ 92 → i + 1 < length z → unescaped (drop i z) ≡ 92 ∷ unescaped (drop (i + 2) z)
+pub read_backslash : (z : Bytes) (i : ℕ) → slice_index z i ≡ 92 → slice_index z (i + 1) ≡ 92 → i + 1 < length z
+    → unescaped (drop i z) ≡ 92 ∷ unescaped (drop (i + 2) z)
 read_backslash z i is second within =
     let one : eqb (slice_index z i) 92 ≡ true = grind (arith, nat_tests) in
     let there : slice_index (drop (i + 1) z) 0 ≡ 92 = behind z i 0 (i + 1) (omega arith) ∙ second in
     let two : eqb (slice_index (drop (i + 1) z) 0) 92 ≡ true = grind (arith, nat_tests) in
     let same : i + 1 + 1 ≡ i + 2 = omega arith in
     let rest : unescaped_after 1 (drop (i + 1) z) ≡ unescaped (drop (i + 2) z) = used z (i + 1) 0 within ∙ ap (λ n. unescaped (drop n z)) same in
-    ap unescaped (front z i (omega arith)) ∙ first_way (eqb (slice_index z i) 92) (eqb (slice_index (drop (i + 1) z) 0) 92) (begins_hex (drop (i + 1) z)) _ _ _ _ one two ∙ ap (λ x. 92 ∷ x) rest
+    ap unescaped (front z i (omega arith))
+    ∙ first_way (eqb (slice_index z i) 92) (eqb (slice_index (drop (i + 1) z) 0) 92) (begins_hex (drop (i + 1) z)) _ _ _ _ one two ∙ ap (λ x. 92 ∷ x) rest
 
 pub read_hex : (z : Bytes) (i high low : ℕ) → i + 2 < length z → slice_index z i ≡ 92 → (slice_index z (i + 1) ≡ 92 → ⊥)
-    → high ≡ min (digit_value (slice_index z (i + 1))) 16 → low ≡ min (digit_value (slice_index z (i + 2))) 16 → high < 16 → low < 16 → unescaped (drop i z) ≡ (high * 16 + low) ∷ unescaped (drop (i + 3) z)
+    → high ≡ min (digit_value (slice_index z (i + 1))) 16 → low ≡ min (digit_value (slice_index z (i + 2))) 16 → high < 16 → low < 16
+    → unescaped (drop i z) ≡ (high * 16 + low) ∷ unescaped (drop (i + 3) z)
 read_hex z i high low within is other high_is low_is high_small low_small =
     let one : eqb (slice_index z i) 92 ≡ true = grind (arith, nat_tests) in
     let first : slice_index (drop (i + 1) z) 0 ≡ slice_index z (i + 1) = behind z i 0 (i + 1) (omega arith) in
     let second : slice_index (drop (i + 1) z) 1 ≡ slice_index z (i + 2) = behind z i 1 (i + 2) (omega arith) in
     let two : eqb (slice_index (drop (i + 1) z) 0) 92 ≡ false = not_eqb (slice_index (drop (i + 1) z) 0) 92 (λ h. other (sym first ∙ h)) in
-    let high_value : digit_value (slice_index (drop (i + 1) z) 0) ≡ high = ap digit_value first ∙ below (digit_value (slice_index z (i + 1))) high high_is high_small in
-    let low_value : digit_value (slice_index (drop (i + 1) z) 1) ≡ low = ap digit_value second ∙ below (digit_value (slice_index z (i + 2))) low low_is low_small in
-    let hex : begins_hex (drop (i + 1) z) ≡ true = two_digits (digit_value (slice_index (drop (i + 1) z) 0)) (digit_value (slice_index (drop (i + 1) z) 1)) (omega arith) (omega arith) in
+    let high_value : digit_value (slice_index (drop (i + 1) z) 0) ≡ high = ap digit_value first
+    ∙ below (digit_value (slice_index z (i + 1))) high high_is high_small in
+    let low_value : digit_value (slice_index (drop (i + 1) z) 1) ≡ low = ap digit_value second
+    ∙ below (digit_value (slice_index z (i + 2))) low low_is low_small in
+    let hex : begins_hex (drop (i + 1) z) ≡ true = two_digits (digit_value (slice_index (drop (i + 1) z) 0)) (digit_value (slice_index (drop (i + 1) z) 1))
+    (omega arith) (omega arith) in
     let value : hex_byte (drop (i + 1) z) ≡ high * 16 + low = omega arith in
     let same : i + 1 + 1 + 1 ≡ i + 3 = omega arith in
-    let rest : unescaped_after 2 (drop (i + 1) z) ≡ unescaped (drop (i + 3) z) = used z (i + 1) 1 (omega arith) ∙ used z (i + 1 + 1) 0 (omega arith) ∙ ap (λ n. unescaped (drop n z)) same in
-    ap unescaped (front z i (omega arith)) ∙ second_way (eqb (slice_index z i) 92) (eqb (slice_index (drop (i + 1) z) 0) 92) (begins_hex (drop (i + 1) z)) _ _ _ _ one two hex ∙ ap (λ x. x ∷ unescaped_after 2 (drop (i + 1) z)) value ∙ ap (λ x. (high * 16 + low) ∷ x) rest
+    let rest : unescaped_after 2 (drop (i + 1) z) ≡ unescaped (drop (i + 3) z) = used z (i + 1) 1 (omega arith) ∙ used z (i + 1 + 1) 0 (omega arith) ∙ ap
+    (λ n. unescaped (drop n z)) same in
+    ap unescaped (front z i (omega arith))
+    ∙ second_way (eqb (slice_index z i) 92) (eqb (slice_index (drop (i + 1) z) 0) 92) (begins_hex (drop (i + 1) z)) _ _ _ _ one two hex ∙ ap
+    (λ x. x ∷ unescaped_after 2 (drop (i + 1) z)) value ∙ ap (λ x. (high * 16 + low) ∷ x) rest
 
 pub read_lone : (z : Bytes) (i high low : ℕ) → i < length z → slice_index z i ≡ 92 → (slice_index z (i + 1) ≡ 92 → ⊥)
-    → high ≡ min (digit_value (slice_index z (i + 1))) 16 → low ≡ min (digit_value (slice_index z (i + 2))) 16 → ((16 ≤ high) ⊎ (16 ≤ low)) → unescaped (drop i z) ≡ 92 ∷ unescaped (drop (i + 1) z)
+    → high ≡ min (digit_value (slice_index z (i + 1))) 16 → low ≡ min (digit_value (slice_index z (i + 2))) 16 → ((16 ≤ high) ⊎ (16 ≤ low))
+    → unescaped (drop i z) ≡ 92 ∷ unescaped (drop (i + 1) z)
 read_lone z i high low within is other high_is low_is large =
     let one : eqb (slice_index z i) 92 ≡ true = grind (arith, nat_tests) in
     let first : slice_index (drop (i + 1) z) 0 ≡ slice_index z (i + 1) = behind z i 0 (i + 1) (omega arith) in
@@ -85,8 +99,12 @@ read_lone z i high low within is other high_is low_is large =
     let two : eqb (slice_index (drop (i + 1) z) 0) 92 ≡ false = not_eqb (slice_index (drop (i + 1) z) 0) 92 (λ h. other (sym first ∙ h)) in
     let high_value : digit_value (slice_index (drop (i + 1) z) 0) ≡ digit_value (slice_index z (i + 1)) = ap digit_value first in
     let low_value : digit_value (slice_index (drop (i + 1) z) 1) ≡ digit_value (slice_index z (i + 2)) = ap digit_value second in
-    let hex : begins_hex (drop (i + 1) z) ≡ false = no_digits (digit_value (slice_index (drop (i + 1) z) 0)) (digit_value (slice_index (drop (i + 1) z) 1)) (⊎_elim (λ h. inl (reaches (digit_value (slice_index z (i + 1))) high high_is h (digit_value (slice_index (drop (i + 1) z) 0)) high_value)) (λ h. inr (reaches (digit_value (slice_index z (i + 2))) low low_is h (digit_value (slice_index (drop (i + 1) z) 1)) low_value)) large) in
-    ap unescaped (front z i within) ∙ third_way (eqb (slice_index z i) 92) (eqb (slice_index (drop (i + 1) z) 0) 92) (begins_hex (drop (i + 1) z)) _ _ _ _ one two hex ∙ ap (λ x. x ∷ unescaped (drop (i + 1) z)) is
+    let hex : begins_hex (drop (i + 1) z) ≡ false = no_digits (digit_value (slice_index (drop (i + 1) z) 0)) (digit_value (slice_index (drop (i + 1) z) 1))
+    (⊎_elim (λ h. inl (reaches (digit_value (slice_index z (i + 1))) high high_is h (digit_value (slice_index (drop (i + 1) z) 0)) high_value))
+    (λ h. inr (reaches (digit_value (slice_index z (i + 2))) low low_is h (digit_value (slice_index (drop (i + 1) z) 1)) low_value)) large) in
+    ap unescaped (front z i within)
+    ∙ third_way (eqb (slice_index z i) 92) (eqb (slice_index (drop (i + 1) z) 0) 92) (begins_hex (drop (i + 1) z)) _ _ _ _ one two hex ∙ ap
+    (λ x. x ∷ unescaped (drop (i + 1) z)) is
 
 -- names that are quoted and names that are not
 
@@ -97,7 +115,8 @@ read_none false = refl
 pub read_end : (quoted : Bool) (z : Bytes) (i : ℕ) → length z ≤ i → read quoted (drop i z) ≡ []
 read_end quoted z i h = ap (read quoted) (drop_all i z h) ∙ read_none quoted
 
-pub read_bare : (quoted : Bool) (z : Bytes) (i : ℕ) → i < length z → (quoted ≡ true → slice_index z i ≡ 92 → ⊥) → read quoted (drop i z) ≡ slice_index z i ∷ read quoted (drop (i + 1) z)
+pub read_bare : (quoted : Bool) (z : Bytes) (i : ℕ) → i < length z → (quoted ≡ true → slice_index z i ≡ 92 → ⊥)
+    → read quoted (drop i z) ≡ slice_index z i ∷ read quoted (drop (i + 1) z)
 read_bare true z i h other = read_other z i h (not_eqb (slice_index z i) 92 (other refl))
 read_bare false z i h other = front z i h
 
@@ -112,7 +131,8 @@ read_some true z i h = ap (λ x. bytes_eq [] (unescaped x)) (front z i h) ∙ no
     ways false t u a b c d v w x y = refl
 
     not_none : (c : ℕ) (z : Bytes) → bytes_eq [] (unescaped (c ∷ z)) ≡ false
-    not_none c z = ways (eqb c 92) (eqb (slice_index z 0) 92) (begins_hex z) 92 (hex_byte z) c c (unescaped_after 1 z) (unescaped_after 2 z) (unescaped_after 0 z) (unescaped_after 0 z)
+    not_none c z = ways (eqb c 92) (eqb (slice_index z 0) 92) (begins_hex z) 92 (hex_byte z) c c (unescaped_after 1 z) (unescaped_after 2 z)
+        (unescaped_after 0 z) (unescaped_after 0 z)
 
 -- one byte of the name against one byte of another
 
@@ -123,26 +143,60 @@ front_end (x ∷ w) = refl
 pub front_past : (front : Bytes) (i : ℕ) → i < length front → begins_with [] (drop i front) ≡ false
 front_past word i h = ap (begins_with []) (front word i h)
 
-pub front_more : (w rest : Bytes) (c : ℕ) (word : Bytes) (i : ℕ) → w ≡ c ∷ rest → i < length word → begins_with w (drop i word) ≡ (eqb c (slice_index word i) && begins_with rest (drop (i + 1) word))
+pub front_more : (w rest : Bytes) (c : ℕ) (word : Bytes) (i : ℕ) → w ≡ c ∷ rest → i < length word
+    → begins_with w (drop i word) ≡ (eqb c (slice_index word i) && begins_with rest (drop (i + 1) word))
 front_more w rest c word i is h = ap (λ x. begins_with x (drop i word)) is ∙ ap (begins_with (c ∷ rest)) (front word i h)
 
 pub named_past : (word : Bytes) (i : ℕ) → i < length word → bytes_eq (drop i word) [] ≡ false
 named_past word i h = ap (λ x. bytes_eq x []) (front word i h)
 
-pub named_more : (w rest : Bytes) (c : ℕ) (word : Bytes) (i : ℕ) → w ≡ c ∷ rest → i < length word → bytes_eq (drop i word) w ≡ (eqb (slice_index word i) c && bytes_eq (drop (i + 1) word) rest)
+pub named_more : (w rest : Bytes) (c : ℕ) (word : Bytes) (i : ℕ) → w ≡ c ∷ rest → i < length word
+    → bytes_eq (drop i word) w ≡ (eqb (slice_index word i) c && bytes_eq (drop (i + 1) word) rest)
 named_more w rest c word i is h = ap (bytes_eq (drop i word)) is ∙ ap (λ x. bytes_eq x (c ∷ rest)) (front word i h)
 
 -- the name ends where its bytes do
 pub named_end : (quoted : Bool) (z word : Bytes) (i k : ℕ) → i ≤ length z → length word ≤ k → eqb i (length z) ≡ bytes_eq (drop k word) (read quoted (drop i z))
 named_end quoted z word i k within past =
     ⊎_elim
-    (λ inside. let apart : eqb i (length z) ≡ false = grind (arith, nat_tests) in apart ∙ sym (read_some quoted z i inside) ∙ ap (λ x. bytes_eq x (read quoted (drop i z))) (sym (drop_all k word past)))
-    (λ outside. let same : eqb i (length z) ≡ true = grind (arith, nat_tests) in same ∙ ap (bytes_eq []) (sym (read_end quoted z i outside)) ∙ ap (λ x. bytes_eq x (read quoted (drop i z))) (sym (drop_all k word past)))
+    (λ inside. let apart : eqb i (length z) ≡ false = grind (arith, nat_tests) in
+    apart ∙ sym (read_some quoted z i inside) ∙ ap (λ x. bytes_eq x (read quoted (drop i z))) (sym (drop_all k word past)))
+    (λ outside. let same : eqb i (length z) ≡ true = grind (arith, nat_tests) in
+    same ∙ ap (bytes_eq []) (sym (read_end quoted z i outside)) ∙ ap (λ x. bytes_eq x (read quoted (drop i z))) (sym (drop_all k word past)))
     (cases_lt i (length z))
 
--- a quoted name is what its quotes hold, read
-pub name_quoted : (z : Bytes) → slice_index z 0 ≡ 34 → name_of z ≡ unescaped (take (length z - 1 - 1) (drop 1 z))
-name_quoted z h =
+-- names that are left out
+
+digits_or : (z : Bytes) (t : Bool) (n : ℕ) (bytes : Bytes) → t ≡ false → is_left_name (cond t (Number n) (Spelled bytes)) ≡ are_left bytes
+digits_or z t n bytes h = ap (λ x. is_left_name (cond x (Number n) (Spelled bytes))) h
+
+-- a name that is quoted is what its quotes hold, read
+pub left_quoted : (z : Bytes) → slice_index z 0 ≡ 34 → is_left_name (name_of z) ≡ are_left (unescaped (take (length z - 1 - 1) (drop 1 z)))
+left_quoted z h =
     let quoted : eqb (slice_index z 0) 34 ≡ true = grind (arith, nat_tests) in
     let same : length z - 2 ≡ length z - 1 - 1 = omega arith in
-    ap (λ s. cond s (unescaped (take (length z - 2) (drop 1 z))) z) quoted ∙ ap (λ n. unescaped (take n (drop 1 z))) same
+    digits_or z (list_all is_ascii_digit z) (digits_value 10 z) (bytes_of z) (no_digits_quoted z h)
+    ∙ ap (λ s. are_left (cond s (unescaped (take (length z - 2) (drop 1 z))) z)) quoted ∙ ap (λ n. are_left (unescaped (take n (drop 1 z)))) same
+  where
+    no_digits_quoted : (z : Bytes) → slice_index z 0 ≡ 34 → list_all is_ascii_digit z ≡ false
+    no_digits_quoted [] h = absurd (omega arith)
+    no_digits_quoted (c ∷ z) h = let first : c ≡ 34 = h in let bare : is_ascii_digit c ≡ false = grind (arith, nat_tests) in
+        ap (λ s. s && list_all is_ascii_digit z) bare
+
+-- no name that is left out begins with a digit
+number_is_kept : (z : Bytes) → list_all is_ascii_digit z ≡ true → are_left z ≡ false
+number_is_kept [] h = refl
+number_is_kept (c ∷ z) h =
+    let digit : is_ascii_digit c ≡ true = (and_parts (is_ascii_digit c) (list_all is_ascii_digit z) h).0 in
+    let other : eqb c 108 ≡ false = grind (arith, nat_tests, digit) in
+    grind (arith, other)
+
+-- and one that is not quoted is its bytes
+pub left_bare : (z : Bytes) → (slice_index z 0 ≡ 34 → ⊥) → is_left_name (name_of z) ≡ are_left z
+left_bare z h = by_digits (list_all is_ascii_digit z) refl
+  where
+    bare : eqb (slice_index z 0) 34 ≡ false
+    bare = not_eqb (slice_index z 0) 34 h
+
+    by_digits : (t : Bool) → list_all is_ascii_digit z ≡ t → is_left_name (cond t (Number (digits_value 10 z)) (Spelled (bytes_of z))) ≡ are_left z
+    by_digits true is = sym (number_is_kept z is)
+    by_digits false is = ap (λ s. are_left (cond s (unescaped (take (length z - 2) (drop 1 z))) z)) bare

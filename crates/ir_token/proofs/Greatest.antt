@@ -1,16 +1,17 @@
 -- For each kind the end that is computed is that of a text of the kind, and no text of the kind ends beyond it.
-use Rattle.std.proofs.Common.{◌≡◌, ℕ, ◌+◌, ◌<◌, ◌≤◌, Bool, true, false, inl, inr, eqb, length, sym, ap, ◌∙◌, subst, ⊎_elim, arith}
-use Rattle.std.proofs.lemmas.Bool.{cases_lt, cases_Bool}
+use Rattle.std.proofs.Common.{◌≡◌, ℕ, ◌+◌, ◌<◌, ◌≤◌, Bool, true, false, inl, inr, eqb, Option, None, Some, length, refl, sym, ap, ◌∙◌, subst, ⊎_elim, arith}
+use Rattle.std.proofs.lemmas.Bool.{cases_Bool}
 use Rattle.std.proofs.lemmas.Bool.Decides.{nat_tests}
 use Rattle.std.specs.List.{slice_index}
 use Rattle.std.specs.Char.{is_ascii_digit}
 use Rattle.ir_token.specs.declared.token.Kind.{Kind}
 use Rattle.ir_token.specs.declared.token.Kind.TheVariants.{Word, Global, Local, Comdat, Label, Int, Str, CStr, Group, Meta, Punct, Dots, Opaque}
-use Rattle.ir_token.specs.Bytes.{Bytes, begins_word, is_word, is_label, is_meta, is_punct, is_in_line, EndsLine}
+use Rattle.ir_token.specs.Bytes.{Bytes, begins_word, is_word, is_label, is_punct}
 use Rattle.ir_token.specs.Texts.{IsText, IsString, IsSome, IsName, IsNamed}
-use Rattle.ir_token.specs.Ends.{past, string_end, name_end, prefixed, text_end, begins_opaque}
-use Rattle.ir_token.proofs.Past.{past_within, past_stops, run_past, past_run, run_is_past}
-use Rattle.ir_token.proofs.Meaning.{some_past, some_first, string_is, string_to, string_moves, name_is, name_to, name_moves, opaque_is, opaque_from, opaque_first}
+use Rattle.ir_token.specs.Ends.{past, string_end, name_end, meta_end, prefixed, text_end, begins_opaque, opaque_end, place_or}
+use Rattle.ir_token.proofs.Past.{run_past, run_is_past}
+use Rattle.ir_token.proofs.Meaning.{some_past, some_first, string_is, string_to, string_moves, name_is, name_to, name_moves, meta_is, meta_to, meta_moves}
+use Rattle.ir_token.proofs.Opaques.{opaque_from, opaque_begins, opaque_moves, opaque_text, opaque_text_end, opaque_none, opaque_to}
 
 pub record IsGreatest (b : Bytes) (i : ℕ) (k : Kind) : Type 0 where
   pub is_text : i < text_end b i k → IsText k b i (text_end b i k)
@@ -18,7 +19,7 @@ pub record IsGreatest (b : Bytes) (i : ℕ) (k : Kind) : Type 0 where
 
 -- a text has a byte
 pub text_moves : (k : Kind) (b : Bytes) (i e : ℕ) → IsText k b i e → i < e
-text_moves Opaque b i e h = h.0
+text_moves Opaque b i e h = opaque_moves b i e h
 text_moves Label b i e (colon, (either, is, ends)) = ⊎_elim (λ run. omega (arith, run.0)) (λ string. omega (arith, string_moves b i colon string)) either
 text_moves Global b i e h = omega (arith, name_moves b (i + 1) e h.1)
 text_moves Local b i e h = omega (arith, name_moves b (i + 1) e h.1)
@@ -26,32 +27,29 @@ text_moves Comdat b i e h = omega (arith, name_moves b (i + 1) e h.1)
 text_moves Str b i e h = omega (arith, string_moves b i e h)
 text_moves CStr b i e h = omega (arith, string_moves b (i + 1) e h.1)
 text_moves Group b i e h = omega (arith, h.1.0)
-text_moves Meta b i e h = omega (arith, h.1.0)
+text_moves Meta b i e h = omega (arith, meta_moves b i e h)
 text_moves Int b i e h = ⊎_elim (λ run. run.0) (λ signed. omega (arith, signed.1.0)) h
 text_moves Word b i e h = h.1.0
 text_moves Dots b i e h = omega (arith, h.1)
 text_moves Punct b i e h = omega (arith, h.1)
 
-opaque : (b : Bytes) (i : ℕ) → i < length b → IsGreatest b i Opaque
-opaque b i inside = record {
-  is_text = λ h. is h;
-  no_further = λ e within text. to e within text;
-}
+opaque : (b : Bytes) (i : ℕ) → IsGreatest b i Opaque
+opaque b i = record { is_text = λ h. is h; no_further = λ e within text. to e within text }
   where
+    by_end : begins_opaque b i ≡ true → (o : Option ℕ) → opaque_end b i ≡ o → i < place_or i o → IsText Opaque b i (place_or i o)
+    by_end begins None ends h = absurd (omega arith)
+    by_end begins (Some e) ends h = opaque_text b i e begins ends
+
     is : i < text_end b i Opaque → IsText Opaque b i (text_end b i Opaque)
-    is h =
-        let begins : begins_opaque b i ≡ true = grind (arith, nat_tests) in
-        let e : text_end b i Opaque ≡ past is_in_line b i = grind (arith, nat_tests) in
-        let top : past is_in_line b i ≤ length b = (past_within is_in_line b i (omega arith)).1 in
-        let line : EndsLine b (past is_in_line b i) = ⊎_elim (λ before. let stops : is_in_line (slice_index b (past is_in_line b i)) ≡ false = past_stops is_in_line b i before in let feed : slice_index b (past is_in_line b i) ≡ 10 = grind (arith, nat_tests) in inr feed) (λ at_end. let same : past is_in_line b i ≡ length b = omega arith in inl same) (cases_lt (past is_in_line b i) (length b)) in
-        subst (λ n. IsText Opaque b i n) (sym e) (omega arith, opaque_is b i begins, past_run is_in_line b i (past is_in_line b i) (omega arith) (omega arith), line)
+    is h = ⊎_elim (λ begins. let same = opaque_text_end b i begins in
+        subst (λ n. IsText Opaque b i n) (sym same) (by_end begins (opaque_end b i) refl (omega arith)))
+        (λ plain. absurd (omega (arith, opaque_none b i plain))) (cases_Bool (begins_opaque b i))
 
     to : (e : ℕ) → e ≤ length b → IsText Opaque b i e → e ≤ text_end b i Opaque
     to e within text =
-        let begins : begins_opaque b i ≡ true = opaque_from b i text.1 in
-        let first = opaque_first b i begins in
-        let same : text_end b i Opaque ≡ past is_in_line b i = grind (arith, nat_tests, first) in
-        omega (arith, run_past is_in_line b i e within text.2)
+        let begins : begins_opaque b i ≡ true = opaque_from b i (opaque_begins b i e text) in
+        let same : text_end b i Opaque ≡ e = opaque_text_end b i begins ∙ ap (place_or i) (opaque_to b i e within text) in
+        omega arith
 
 label : (b : Bytes) (i : ℕ) → IsGreatest b i Label
 label b i = record { is_text = λ h. is h; no_further = λ e within text. to e within text }
@@ -71,7 +69,8 @@ label b i = record { is_text = λ h. is h; no_further = λ e within text. to e w
         (past is_label b i, (inl (some_past is_label b i moves), colon, e))
 
     is : i < text_end b i Label → IsText Label b i (text_end b i Label)
-    is h = ⊎_elim (λ string. let opens : slice_index b i ≡ 34 = grind (arith, nat_tests) in quoted h opens) (λ other. plain h other) (cases_Bool (eqb (slice_index b i) 34))
+    is h = ⊎_elim (λ string. let opens : slice_index b i ≡ 34 = grind (arith, nat_tests) in quoted h opens)
+        (λ other. plain h other) (cases_Bool (eqb (slice_index b i) 34))
 
     from_run : (colon : ℕ) → colon < length b → IsSome is_label b i colon → slice_index b colon ≡ 58 → colon + 1 ≤ text_end b i Label
     from_run colon within run is58 =
@@ -114,20 +113,26 @@ named_to b i sigil e within named =
 
 global : (b : Bytes) (i : ℕ) → IsGreatest b i Global
 global b i = record {
-  is_text = λ h. let is : slice_index b i ≡ 64 = grind (arith, nat_tests) in let e : text_end b i Global ≡ prefixed i (name_end b (i + 1)) = grind (arith, nat_tests) in named_is b i 64 (text_end b i Global) is e h;
-  no_further = λ e within text. let is : slice_index b i ≡ 64 = text.0 in let same : text_end b i Global ≡ prefixed i (name_end b (i + 1)) = grind (arith, nat_tests) in omega (arith, named_to b i 64 e within text);
+  is_text = λ h. let is : slice_index b i ≡ 64 = grind (arith, nat_tests) in
+      let e : text_end b i Global ≡ prefixed i (name_end b (i + 1)) = grind (arith, nat_tests) in named_is b i 64 (text_end b i Global) is e h;
+  no_further = λ e within text. let is : slice_index b i ≡ 64 = text.0 in
+      let same : text_end b i Global ≡ prefixed i (name_end b (i + 1)) = grind (arith, nat_tests) in omega (arith, named_to b i 64 e within text);
 }
 
 local : (b : Bytes) (i : ℕ) → IsGreatest b i Local
 local b i = record {
-  is_text = λ h. let is : slice_index b i ≡ 37 = grind (arith, nat_tests) in let e : text_end b i Local ≡ prefixed i (name_end b (i + 1)) = grind (arith, nat_tests) in named_is b i 37 (text_end b i Local) is e h;
-  no_further = λ e within text. let is : slice_index b i ≡ 37 = text.0 in let same : text_end b i Local ≡ prefixed i (name_end b (i + 1)) = grind (arith, nat_tests) in omega (arith, named_to b i 37 e within text);
+  is_text = λ h. let is : slice_index b i ≡ 37 = grind (arith, nat_tests) in
+      let e : text_end b i Local ≡ prefixed i (name_end b (i + 1)) = grind (arith, nat_tests) in named_is b i 37 (text_end b i Local) is e h;
+  no_further = λ e within text. let is : slice_index b i ≡ 37 = text.0 in
+      let same : text_end b i Local ≡ prefixed i (name_end b (i + 1)) = grind (arith, nat_tests) in omega (arith, named_to b i 37 e within text);
 }
 
 comdat : (b : Bytes) (i : ℕ) → IsGreatest b i Comdat
 comdat b i = record {
-  is_text = λ h. let is : slice_index b i ≡ 36 = grind (arith, nat_tests) in let e : text_end b i Comdat ≡ prefixed i (name_end b (i + 1)) = grind (arith, nat_tests) in named_is b i 36 (text_end b i Comdat) is e h;
-  no_further = λ e within text. let is : slice_index b i ≡ 36 = text.0 in let same : text_end b i Comdat ≡ prefixed i (name_end b (i + 1)) = grind (arith, nat_tests) in omega (arith, named_to b i 36 e within text);
+  is_text = λ h. let is : slice_index b i ≡ 36 = grind (arith, nat_tests) in
+      let e : text_end b i Comdat ≡ prefixed i (name_end b (i + 1)) = grind (arith, nat_tests) in named_is b i 36 (text_end b i Comdat) is e h;
+  no_further = λ e within text. let is : slice_index b i ≡ 36 = text.0 in
+      let same : text_end b i Comdat ≡ prefixed i (name_end b (i + 1)) = grind (arith, nat_tests) in omega (arith, named_to b i 36 e within text);
 }
 
 -- strings
@@ -135,13 +140,18 @@ comdat b i = record {
 str : (b : Bytes) (i : ℕ) → IsGreatest b i Str
 str b i = record {
   is_text = λ h. let e : text_end b i Str ≡ string_end b i = grind (arith, nat_tests) in subst (λ n. IsString b i n) (sym e) (string_is b i (omega arith));
-  no_further = λ e within text. let opens : slice_index b i ≡ 34 = text.1.0 in let same : text_end b i Str ≡ string_end b i = grind (arith, nat_tests) in omega (arith, string_to b i e within text);
+  no_further = λ e within text. let opens : slice_index b i ≡ 34 = text.1.0 in let same : text_end b i Str ≡ string_end b i = grind (arith, nat_tests) in
+      omega (arith, string_to b i e within text);
 }
 
 constant : (b : Bytes) (i : ℕ) → IsGreatest b i CStr
 constant b i = record {
-  is_text = λ h. let is : slice_index b i ≡ 99 = grind (arith, nat_tests) in let moves : i + 1 < string_end b (i + 1) = grind (arith, nat_tests) in let e : text_end b i CStr ≡ string_end b (i + 1) = grind (arith, nat_tests) in (is, subst (λ n. IsString b (i + 1) n) (sym e) (string_is b (i + 1) moves));
-  no_further = λ e within text. let is : slice_index b i ≡ 99 = text.0 in let there : e ≡ string_end b (i + 1) = string_to b (i + 1) e within text.1 in let moves : i + 1 + 1 < e = string_moves b (i + 1) e text.1 in let same : text_end b i CStr ≡ string_end b (i + 1) = grind (arith, nat_tests) in omega arith;
+  is_text = λ h. let is : slice_index b i ≡ 99 = grind (arith, nat_tests) in let moves : i + 1 < string_end b (i + 1) = grind (arith, nat_tests) in
+      let e : text_end b i CStr ≡ string_end b (i + 1) = grind (arith, nat_tests) in
+      (is, subst (λ n. IsString b (i + 1) n) (sym e) (string_is b (i + 1) moves));
+  no_further = λ e within text. let is : slice_index b i ≡ 99 = text.0 in let there : e ≡ string_end b (i + 1) = string_to b (i + 1) e within text.1 in
+      let moves : i + 1 + 1 < e = string_moves b (i + 1) e text.1 in let same : text_end b i CStr ≡ string_end b (i + 1) = grind (arith, nat_tests) in
+      omega arith;
 }
 
 -- a byte and a run behind it
@@ -160,15 +170,32 @@ marked_to p b i e within some =
 
 group : (b : Bytes) (i : ℕ) → IsGreatest b i Group
 group b i = record {
-  is_text = λ h. let is : slice_index b i ≡ 35 = grind (arith, nat_tests) in let e : text_end b i Group ≡ prefixed i (past is_ascii_digit b (i + 1)) = grind (arith, nat_tests) in (is, marked_is is_ascii_digit b i (text_end b i Group) e h);
-  no_further = λ e within text. let is : slice_index b i ≡ 35 = text.0 in let same : text_end b i Group ≡ prefixed i (past is_ascii_digit b (i + 1)) = grind (arith, nat_tests) in omega (arith, marked_to is_ascii_digit b i e within text.1);
+  is_text = λ h. let is : slice_index b i ≡ 35 = grind (arith, nat_tests) in
+      let e : text_end b i Group ≡ prefixed i (past is_ascii_digit b (i + 1)) = grind (arith, nat_tests) in
+      (is, marked_is is_ascii_digit b i (text_end b i Group) e h);
+  no_further = λ e within text. let is : slice_index b i ≡ 35 = text.0 in
+      let same : text_end b i Group ≡ prefixed i (past is_ascii_digit b (i + 1)) = grind (arith, nat_tests) in
+      omega (arith, marked_to is_ascii_digit b i e within text.1);
 }
 
 meta : (b : Bytes) (i : ℕ) → IsGreatest b i Meta
-meta b i = record {
-  is_text = λ h. let is : slice_index b i ≡ 33 = grind (arith, nat_tests) in let e : text_end b i Meta ≡ prefixed i (past is_meta b (i + 1)) = grind (arith, nat_tests) in (is, marked_is is_meta b i (text_end b i Meta) e h);
-  no_further = λ e within text. let is : slice_index b i ≡ 33 = text.0 in let same : text_end b i Meta ≡ prefixed i (past is_meta b (i + 1)) = grind (arith, nat_tests) in omega (arith, marked_to is_meta b i e within text.1);
-}
+meta b i = record { is_text = λ h. is h; no_further = λ e within text. to e within text }
+  where
+    is : i < text_end b i Meta → IsText Meta b i (text_end b i Meta)
+    is h =
+        let mark : slice_index b i ≡ 33 = grind (arith, nat_tests) in
+        let e : text_end b i Meta ≡ prefixed i (meta_end b (i + 1)) = grind (arith, nat_tests) in
+        let further : i + 1 < meta_end b (i + 1) = grind (arith, nat_tests) in
+        let there : text_end b i Meta ≡ meta_end b (i + 1) = grind (arith, nat_tests) in
+        subst (λ n. IsText Meta b i n) (sym there) (meta_is b i mark further)
+
+    to : (e : ℕ) → e ≤ length b → IsText Meta b i e → e ≤ text_end b i Meta
+    to e within text =
+        let mark : slice_index b i ≡ 33 = text.0 in
+        let moves : i + 1 < e = meta_moves b i e text in
+        let low : e ≤ meta_end b (i + 1) = meta_to b i e within text in
+        let same : text_end b i Meta ≡ prefixed i (meta_end b (i + 1)) = grind (arith, nat_tests) in
+        grind (arith, nat_tests)
 
 int : (b : Bytes) (i : ℕ) → IsGreatest b i Int
 int b i = record { is_text = λ h. is h; no_further = λ e within text. to e within text }
@@ -176,21 +203,30 @@ int b i = record { is_text = λ h. is h; no_further = λ e within text. to e wit
     is : i < text_end b i Int → IsText Int b i (text_end b i Int)
     is h =
         ⊎_elim
-        (λ sign. let minus : slice_index b i ≡ 45 = grind (arith, nat_tests) in let e : text_end b i Int ≡ prefixed i (past is_ascii_digit b (i + 1)) = grind (arith, nat_tests) in inr (minus, marked_is is_ascii_digit b i (text_end b i Int) e h))
-        (λ plain. let e : text_end b i Int ≡ past is_ascii_digit b i = grind (arith, nat_tests) in inl (subst (λ n. IsSome is_ascii_digit b i n) (sym e) (some_past is_ascii_digit b i (omega arith))))
+        (λ sign. let minus : slice_index b i ≡ 45 = grind (arith, nat_tests) in
+        let e : text_end b i Int ≡ prefixed i (past is_ascii_digit b (i + 1)) = grind (arith, nat_tests) in
+        inr (minus, marked_is is_ascii_digit b i (text_end b i Int) e h))
+        (λ plain. let e : text_end b i Int ≡ past is_ascii_digit b i = grind (arith, nat_tests) in
+        inl (subst (λ n. IsSome is_ascii_digit b i n) (sym e) (some_past is_ascii_digit b i (omega arith))))
         (cases_Bool (eqb (slice_index b i) 45))
 
     to : (e : ℕ) → e ≤ length b → IsText Int b i e → e ≤ text_end b i Int
     to e within text =
         ⊎_elim
-        (λ digits. let first : is_ascii_digit (slice_index b i) ≡ true = some_first is_ascii_digit b i e digits in let same : text_end b i Int ≡ past is_ascii_digit b i = grind (arith, nat_tests) in omega (arith, run_past is_ascii_digit b i e within digits.1))
-        (λ signed. let minus : slice_index b i ≡ 45 = signed.0 in let same : text_end b i Int ≡ prefixed i (past is_ascii_digit b (i + 1)) = grind (arith, nat_tests) in omega (arith, marked_to is_ascii_digit b i e within signed.1))
+        (λ digits. let first : is_ascii_digit (slice_index b i) ≡ true = some_first is_ascii_digit b i e digits in
+        let same : text_end b i Int ≡ past is_ascii_digit b i = grind (arith, nat_tests) in omega (arith, run_past is_ascii_digit b i e within digits.1))
+        (λ signed. let minus : slice_index b i ≡ 45 = signed.0 in
+        let same : text_end b i Int ≡ prefixed i (past is_ascii_digit b (i + 1)) = grind (arith, nat_tests) in
+        omega (arith, marked_to is_ascii_digit b i e within signed.1))
         text
 
 word : (b : Bytes) (i : ℕ) → IsGreatest b i Word
 word b i = record {
-  is_text = λ h. let is : begins_word (slice_index b i) ≡ true = grind (arith, nat_tests) in let e : text_end b i Word ≡ past is_word b i = grind (arith, nat_tests) in (is, subst (λ n. IsSome is_word b i n) (sym e) (some_past is_word b i (omega arith)));
-  no_further = λ e within text. let is : begins_word (slice_index b i) ≡ true = text.0 in let same : text_end b i Word ≡ past is_word b i = grind (arith, nat_tests) in omega (arith, run_past is_word b i e within text.1.1);
+  is_text = λ h. let is : begins_word (slice_index b i) ≡ true = grind (arith, nat_tests) in
+      let e : text_end b i Word ≡ past is_word b i = grind (arith, nat_tests) in
+      (is, subst (λ n. IsSome is_word b i n) (sym e) (some_past is_word b i (omega arith)));
+  no_further = λ e within text. let is : begins_word (slice_index b i) ≡ true = text.0 in
+      let same : text_end b i Word ≡ past is_word b i = grind (arith, nat_tests) in omega (arith, run_past is_word b i e within text.1.1);
 }
 
 dots : (b : Bytes) (i : ℕ) → IsGreatest b i Dots
@@ -216,12 +252,14 @@ dots b i = record { is_text = λ h. is h; no_further = λ e within text. to e te
 
 punct : (b : Bytes) (i : ℕ) → IsGreatest b i Punct
 punct b i = record {
-  is_text = λ h. let is : is_punct (slice_index b i) ≡ true = grind (arith, nat_tests) in let e : text_end b i Punct ≡ i + 1 = grind (arith, nat_tests) in (is, e);
-  no_further = λ e within text. let is : is_punct (slice_index b i) ≡ true = text.0 in let same : text_end b i Punct ≡ i + 1 = grind (arith, nat_tests) in omega (arith, text.1);
+  is_text = λ h. let is : is_punct (slice_index b i) ≡ true = grind (arith, nat_tests) in let e : text_end b i Punct ≡ i + 1 = grind (arith, nat_tests) in
+      (is, e);
+  no_further = λ e within text. let is : is_punct (slice_index b i) ≡ true = text.0 in let same : text_end b i Punct ≡ i + 1 = grind (arith, nat_tests) in
+      omega (arith, text.1);
 }
 
 pub greatest : (k : Kind) (b : Bytes) (i : ℕ) → i < length b → IsGreatest b i k
-greatest Opaque b i inside = opaque b i inside
+greatest Opaque b i inside = opaque b i
 greatest Label b i inside = label b i
 greatest Global b i inside = global b i
 greatest Local b i inside = local b i

@@ -1,6 +1,8 @@
 pub mod Past
 pub mod Gaps
+pub mod Closes
 pub mod Meaning
+pub mod Opaques
 pub mod Greatest
 pub mod Standing
 pub mod Firsts

@@ -46,7 +46,8 @@ rows_before c (row ∷ rows) w h less =
     (none_among c row w parts.0 (λ same. omega arith))
     (rows_before (suc c) rows w parts.1 (omega arith))
 
-rows_at : (c k : ℕ) (rows : List (List Bytes)) (w : Bytes) → in_order c rows ≡ true → c + k ≡ slice_index w 0 → list_any (λ row. is_among row w) rows ≡ is_among (get_or rows k []) w
+rows_at : (c k : ℕ) (rows : List (List Bytes)) (w : Bytes) → in_order c rows ≡ true → c + k ≡ slice_index w 0 → list_any
+    (λ row. is_among row w) rows ≡ is_among (get_or rows k []) w
 rows_at c k [] w h same = ap (λ row. is_among row w) (sym (get_or_past [] k [] (omega arith)))
 rows_at c zero (row ∷ rows) w h same =
     let parts = and_parts (all_begin c row) (in_order (suc c) rows) h in
@@ -73,7 +74,8 @@ pub in_no_row : (w : Bytes) → ((slice_index w 0 < 97) ⊎ (122 < slice_index w
 unfolding is_in_rows left_rows
 in_no_row w h =
     ⊎_elim (λ less. rows_before 97 left_rows w left_in_order less)
-    (λ more. in_row w (slice_index w 0 - 97) (omega arith) ∙ ap (λ row. is_among row w) (get_or_past left_rows (slice_index w 0 - 97) [] (beyond (slice_index w 0 - 97) (omega arith)))) h
+    (λ more. in_row w (slice_index w 0 - 97) (omega arith) ∙ ap
+    (λ row. is_among row w) (get_or_past left_rows (slice_index w 0 - 97) [] (beyond (slice_index w 0 - 97) (omega arith)))) h
   where
     beyond : (k : ℕ) → 26 ≤ k → length left_rows ≤ k
     beyond k h = h

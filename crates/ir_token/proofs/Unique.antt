@@ -1,26 +1,29 @@
 -- A text has one token at a place at most, and so one list, and one place at which it is refused.
-use Rattle.std.proofs.Common.{◌≡◌, ℕ, ◌<◌, ◌≤◌, false, cond, ◌⊎◌, inl, inr, eqb, List, [], ◌∷◌, length, refl, sym, ap, ◌∙◌, subst, ⊎_elim, arith}
+use Rattle.std.proofs.Common.{◌≡◌, ℕ, ◌<◌, ◌≤◌, true, false, cond, ◌⊎◌, inl, inr, eqb, List, [], ◌∷◌, length, refl, sym, ap, ◌∙◌, subst, ⊎_elim, arith}
 use Rattle.std.proofs.lemmas.Bool.{cases_lt}
-use Rattle.std.proofs.lemmas.Bool.Decides.{nat_tests}
-use Rattle.std.specs.List.{slice_index}
 use Rattle.ir_token.specs.declared.token.Kind.{Kind}
 use Rattle.ir_token.specs.declared.token.Kind.TheVariants.{Word, Global, Local, Comdat, Label, Int, Str, CStr, Group, Meta, Punct, Dots, Opaque}
 use Rattle.std.proofs.Common.{Result}
 use Rattle.ir_token.specs.declared.token.LexRefusal.{LexRefusal}
 use Rattle.ir_token.specs.declared.token.Token.{Token}
-use Rattle.ir_token.specs.Bytes.{Bytes, is_in_line, IsRun, EndsLine}
-use Rattle.ir_token.specs.Texts.{order, IsText, LacksQuote, IsToken, IsOpen, IsBad}
+use Rattle.ir_token.specs.Bytes.{Bytes}
+use Rattle.ir_token.specs.Names.{bears_name}
+use Rattle.ir_token.specs.Texts.{order, IsText, IsOpaque, BeginsOpaque, IsLongest, IsToken, IsOpen, IsBad}
 use Rattle.ir_token.specs.LeftOut.{IsLeft}
-use Rattle.ir_token.specs.Ends.{past}
 use Rattle.ir_token.specs.Lists.{Reaches, AreTokens, IsReached, Reading, Reads, Tells}
 use Rattle.ir_token.specs.Lists.Reading.{Listed, BadAt, OpenAt, LeftAt}
-use Rattle.ir_token.proofs.Past.{past_within, run_past, run_is_past}
-use Rattle.ir_token.proofs.Firsts.{within_if}
 use Rattle.ir_token.proofs.Greatest.{text_moves}
+use Rattle.ir_token.proofs.Opaques.{opaque_begins, opaque_to, some_same}
 
 -- the kind at a place of the order
 unfoldable pub kind_at : ℕ → Kind
-kind_at n = cond (eqb n 0) Opaque (cond (eqb n 1) Label (cond (eqb n 2) Global (cond (eqb n 3) Local (cond (eqb n 4) Comdat (cond (eqb n 5) Str (cond (eqb n 6) CStr (cond (eqb n 7) Group (cond (eqb n 8) Meta (cond (eqb n 9) Int (cond (eqb n 10) Word (cond (eqb n 11) Dots Punct)))))))))))
+kind_at n = cond (eqb n 0) Opaque
+    (cond (eqb n 1) Label
+    (cond (eqb n 2) Global
+    (cond (eqb n 3) Local
+    (cond (eqb n 4) Comdat
+    (cond (eqb n 5) Str (cond (eqb n 6) CStr
+    (cond (eqb n 7) Group (cond (eqb n 8) Meta (cond (eqb n 9) Int (cond (eqb n 10) Word (cond (eqb n 11) Dots Punct)))))))))))
 
 pub kind_at-order : (k : Kind) → kind_at (order k) ≡ k
 unfolding kind_at
@@ -42,27 +45,24 @@ pub same_kind : (k j : Kind) → order k ≡ order j → k ≡ j
 same_kind k j same = sym (kind_at-order k) ∙ ap kind_at same ∙ kind_at-order j
 
 opaque_or : (k : Kind) → (k ≡ Opaque) ⊎ (k ≡ Opaque → ⊥)
-opaque_or k = ⊎_elim (λ h. inl (same_kind k Opaque (omega arith))) (λ h. inr (λ same. let e : order k ≡ 0 = ap order same in absurd (omega arith))) (cases_lt (order k) 1)
+opaque_or k = ⊎_elim (λ h. inl (same_kind k Opaque (omega arith)))
+    (λ h. inr (λ same. let e : order k ≡ 0 = ap order same in absurd (omega arith))) (cases_lt (order k) 1)
 
--- a line that is not read ends at one place
-line_end : (b : Bytes) (i e : ℕ) → e ≤ length b → IsRun is_in_line b i e → EndsLine b e → e ≡ past is_in_line b i
-line_end b i e within run ends =
-    ⊎_elim
-    (λ at_end. let low : e ≤ past is_in_line b i = run_past is_in_line b i e within run in let top : past is_in_line b i ≤ length b = (past_within is_in_line b i (omega (arith, run.forward))).1 in omega arith)
-    (λ feed. let inside : e < length b = within_if b e (omega arith) in let stops : is_in_line (slice_index b e) ≡ false = grind (arith, nat_tests) in sym (run_is_past is_in_line b i e inside run stops))
-    ends
-
-as_opaque : (b : Bytes) (i : ℕ) (k : Kind) (e : ℕ) → k ≡ Opaque → IsToken b i k e → IsText Opaque b i e
+as_opaque : (b : Bytes) (i : ℕ) (k : Kind) (e : ℕ) → k ≡ Opaque → IsLongest b i k e → IsOpaque b i e
 as_opaque b i k e same h = let P : Kind → Type 0 = λ x. IsText x b i e in subst P same h.text
 
-pub same_token : (b : Bytes) (i : ℕ) (k j : Kind) (e f : ℕ) → IsToken b i k e → IsToken b i j f → (k ≡ j) × (e ≡ f)
-same_token b i k j e f h g = ⊎_elim (λ opaque. both_opaque opaque (g.unread (as_opaque b i k e opaque h).1)) (λ plain. plain_both plain (λ opaque. plain (h.unread (as_opaque b i j f opaque g).1))) (opaque_or k)
+as_begins : (b : Bytes) (i : ℕ) (k : Kind) (e : ℕ) → k ≡ Opaque → IsLongest b i k e → BeginsOpaque b i
+as_begins b i k e same h = opaque_begins b i e (as_opaque b i k e same h)
+
+same_longest : (b : Bytes) (i : ℕ) (k j : Kind) (e f : ℕ) → IsLongest b i k e → IsLongest b i j f → (k ≡ j) × (e ≡ f)
+same_longest b i k j e f h g = ⊎_elim (λ opaque. both_opaque opaque (g.unread (as_begins b i k e opaque h)))
+    (λ plain. plain_both plain (λ opaque. plain (h.unread (as_begins b i j f opaque g)))) (opaque_or k)
   where
     both_opaque : k ≡ Opaque → j ≡ Opaque → (k ≡ j) × (e ≡ f)
     both_opaque first second =
-        let one = as_opaque b i k e first h in
-        let two = as_opaque b i j f second g in
-        (first ∙ sym second, line_end b i e h.within one.2 one.3 ∙ sym (line_end b i f g.within two.2 two.3))
+        let one = opaque_to b i e h.within (as_opaque b i k e first h) in
+        let two = opaque_to b i f g.within (as_opaque b i j f second g) in
+        (first ∙ sym second, some_same e f (sym one ∙ two))
 
     plain_both : (k ≡ Opaque → ⊥) → (j ≡ Opaque → ⊥) → (k ≡ j) × (e ≡ f)
     plain_both first second =
@@ -73,8 +73,14 @@ same_token b i k j e f h g = ⊎_elim (λ opaque. both_opaque opaque (g.unread (
         let two : order j ≤ order k = g.first k (subst (λ n. IsText k b i n) same h.text) in
         (same_kind k j (omega arith), same)
 
+pub same_token : (b : Bytes) (i : ℕ) (k j : Kind) (e f : ℕ) → IsToken b i k e → IsToken b i j f → (k ≡ j) × (e ≡ f)
+same_token b i k j e f h g = same_longest b i k j e f h.longest g.longest
+
 pub token_moves : (b : Bytes) (i : ℕ) (k : Kind) (e : ℕ) → IsToken b i k e → i < e
-token_moves b i k e h = text_moves k b i e h.text
+token_moves b i k e h = text_moves k b i e h.longest.text
+
+pub token_within : (b : Bytes) (i : ℕ) (k : Kind) (e : ℕ) → IsToken b i k e → e ≤ length b
+token_within b i k e h = h.longest.within
 
 -- no token that is kept begins at i
 pub Stops : Bytes → ℕ → Type 0
@@ -82,13 +88,28 @@ Stops b i = (k : Kind) (e : ℕ) → IsToken b i k e → IsLeft b i k e
 
 stops_at_end : (b : Bytes) → Stops b (length b)
 unfolding Stops
-stops_at_end b k e token = absurd (omega (arith, token_moves b (length b) k e token, token.within))
+stops_at_end b k e token = absurd (omega (arith, token_moves b (length b) k e token, token_within b (length b) k e token))
 
 pub not_bad : (b : Bytes) (i : ℕ) (k : Kind) (e : ℕ) → IsBad b i → IsToken b i k e → ⊥
-not_bad b i k e bad token = bad.none k e token.within token.text
+not_bad b i k e bad token =
+    ⊎_elim (λ begins. begins.none k e token.longest.within token.longest.text)
+    (⊎_elim (λ endless. endless.1 e token.longest.within (as_opaque b i k e (token.longest.unread endless.0) token.longest))
+    (λ nameless. unnamed nameless.0 nameless.1.0 nameless.1.1.0 nameless.1.1.1))
+    bad.cause
+  where
+    unnamed : (j : Kind) (f : ℕ) → IsLongest b i j f → bears_name b j i f ≡ false → ⊥
+    unnamed j f longest none =
+        let same = same_longest b i k j e f token.longest longest in
+        let P : Kind → Type 0 = λ x. bears_name b x i f ≡ true in
+        let named : bears_name b j i f ≡ true = subst P same.0 (subst (λ n. bears_name b k i n ≡ true) same.1 token.named) in
+        cc
+
+-- where a string is open no text is the longest
+open_or_longest : (b : Bytes) (i : ℕ) (k : Kind) (e : ℕ) → IsOpen b i → IsLongest b i k e → ⊥
+open_or_longest b i k e opens longest = opens.unread (as_begins b i k e (longest.closed opens.unclosed) longest)
 
 pub not_open : (b : Bytes) (i : ℕ) (k : Kind) (e : ℕ) → IsOpen b i → IsToken b i k e → ⊥
-not_open b i k e opens token = opens.unread (as_opaque b i k e (token.closed opens.unclosed) token).1
+not_open b i k e opens token = open_or_longest b i k e opens token.longest
 
 stops_at_bad : (b : Bytes) (i : ℕ) → IsBad b i → Stops b i
 unfolding Stops
@@ -142,20 +163,28 @@ to_end : (b : Bytes) (ts : List Token) → AreTokens b ts → IsReached b (lengt
 to_end b ts h = (ts, h)
 
 listed_bad : (b : Bytes) (ts : List Token) (at : ℕ) → AreTokens b ts → IsReached b at → IsBad b at → ⊥
-listed_bad b ts at list reach bad = let same : length b ≡ at = one_place b (length b) at (to_end b ts list) reach (stops_at_end b) (stops_at_bad b at bad) in omega (arith, bad.within)
+listed_bad b ts at list reach bad = let same : length b ≡ at = one_place b (length b) at (to_end b ts list) reach (stops_at_end b) (stops_at_bad b at bad) in
+    omega (arith, bad.within)
 
 listed_open : (b : Bytes) (ts : List Token) (at : ℕ) → AreTokens b ts → IsReached b at → IsOpen b at → ⊥
-listed_open b ts at list reach opens = let same : length b ≡ at = one_place b (length b) at (to_end b ts list) reach (stops_at_end b) (stops_at_open b at opens) in omega (arith, opens.within)
+listed_open b ts at list reach opens = let same : length b ≡ at = one_place b (length b) at (to_end b ts list) reach (stops_at_end b)
+    (stops_at_open b at opens) in omega (arith, opens.within)
 
 listed_left : (b : Bytes) (ts : List Token) (at to : ℕ) (k : Kind) → AreTokens b ts → IsReached b at → IsToken b at k to → IsLeft b at k to → ⊥
 listed_left b ts at to k list reach token left =
     let same : length b ≡ at = one_place b (length b) at (to_end b ts list) reach (stops_at_end b) (stops_at_left b at k to token left) in
-    omega (arith, token_moves b at k to token, token.within)
+    omega (arith, token_moves b at k to token, token_within b at k to token)
 
 bad_open : (b : Bytes) (i j : ℕ) → IsReached b i → IsBad b i → IsReached b j → IsOpen b j → ⊥
 bad_open b i j reach bad reach' opens =
     let same : i ≡ j = one_place b i j reach reach' (stops_at_bad b i bad) (stops_at_open b j opens) in
-    bad.closed (subst (λ n. LacksQuote b n) (sym same) opens.unclosed)
+    apart (subst (λ n. IsOpen b n) (sym same) opens)
+  where
+    apart : IsOpen b i → ⊥
+    apart opens =
+        ⊎_elim (λ begins. begins.closed opens.unclosed)
+        (⊎_elim (λ endless. opens.unread endless.0) (λ nameless. open_or_longest b i nameless.0 nameless.1.0 opens nameless.1.1.0))
+        bad.cause
 
 bad_left : (b : Bytes) (i j to : ℕ) (k : Kind) → IsReached b i → IsBad b i → IsReached b j → IsToken b j k to → IsLeft b j k to → ⊥
 bad_left b i j to k reach bad reach' token left =
@@ -167,7 +196,8 @@ open_left b i j to k reach opens reach' token left =
     let same : i ≡ j = one_place b i j reach reach' (stops_at_open b i opens) (stops_at_left b j k to token left) in
     not_open b i k to opens (subst (λ n. IsToken b n k to) (sym same) token)
 
-left_left : (b : Bytes) (i j e f : ℕ) (k l : Kind) → IsReached b i → IsToken b i k e → IsLeft b i k e → IsReached b j → IsToken b j l f → IsLeft b j l f → LeftAt i e ≡ LeftAt j f
+left_left : (b : Bytes) (i j e f : ℕ) (k l : Kind) → IsReached b i → IsToken b i k e → IsLeft b i k e → IsReached b j → IsToken b j l f → IsLeft b j l f
+    → LeftAt i e ≡ LeftAt j f
 left_left b i j e f k l reach token left reach' token' left' =
     let same : i ≡ j = one_place b i j reach reach' (stops_at_left b i k e token left) (stops_at_left b j l f token' left') in
     let one : e ≡ f = (same_token b i k l e f token (subst (λ n. IsToken b n l f) (sym same) token')).1 in

@@ -18,9 +18,12 @@ value_of_digit c h = grind (arith, nat_tests)
 pub width_more : (digits : List ℕ) (i width : ℕ) → list_all is_ascii_digit digits ≡ true → i < length digits → width ≡ min (digits_value 10 (take i digits)) 65
     → min (width * 10 + (get_or digits i 0 - 48)) 65 ≡ min (digits_value 10 (take (i + 1) digits)) 65
 width_more digits i width h less is =
-    let more : digits_value 10 (take (i + 1) digits) ≡ digits_value 10 (take i digits) * 10 + digit_value (get_or digits i 0) = digits_value_more 10 digits i less in
+    let more : digits_value 10 (take (i + 1) digits) ≡ digits_value 10 (take i digits) * 10 + digit_value
+    (get_or digits i 0) = digits_value_more 10 digits i less in
     let value : digit_value (get_or digits i 0) ≡ get_or digits i 0 - 48 = value_of_digit (get_or digits i 0) (digit_at digits i h less) in
-    capped width (digits_value 10 (take i digits)) (digits_value 10 (take (i + 1) digits)) (digit_value (get_or digits i 0)) (get_or digits i 0 - 48) is more value
+    capped width (digits_value 10 (take i digits)) (digits_value 10 (take (i + 1) digits)) (digit_value (get_or digits i 0))
+    (get_or digits i 0 - 48) is more value
   where
-    capped : (width value next digit number : ℕ) → width ≡ min value 65 → next ≡ value * 10 + digit → digit ≡ number → min (width * 10 + number) 65 ≡ min next 65
+    capped : (width value next digit number : ℕ) → width ≡ min value 65 → next ≡ value * 10 + digit → digit ≡ number
+        → min (width * 10 + number) 65 ≡ min next 65
     capped width value next digit number is more same = omega arith

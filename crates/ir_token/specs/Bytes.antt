@@ -1,6 +1,6 @@
 -- Bytes of a text, their classes, and runs of one class. A place is an index into the whole text; a byte past its end
 -- reads as 0, which is in no class that a token can begin with.
-use Rattle.std.specs.Prelude.{◌≡◌, ℕ, ◌+◌, ◌-◌, ◌<◌, ◌≤◌, Bool, true, not, ◌||◌, ◌⊎◌, ◌==◌, List, [], ◌∷◌, length, slice_index}
+use Rattle.std.specs.Prelude.{◌≡◌, ℕ, ◌+◌, ◌<◌, ◌≤◌, Bool, true, not, ◌||◌, ◌==◌, List, [], ◌∷◌, slice_index}
 use Rattle.std.specs.Char.{is_ascii_alphabetic, is_ascii_alphanumeric}
 
 abbrev pub Bytes : Type 0
@@ -9,10 +9,6 @@ Bytes = List ℕ
 -- space, tab, carriage return, line feed
 abbrev pub is_blank : ℕ → Bool
 is_blank c = ((c == 32 || c == 9) || c == 13) || c == 10
-
--- the blanks that end no line: space and tab
-abbrev pub is_space : ℕ → Bool
-is_space c = c == 32 || c == 9
 
 -- what a Word may begin with: a letter or `_`
 abbrev pub begins_word : ℕ → Bool
@@ -38,9 +34,9 @@ is_punct c = ((((c == 40 || c == 41) || (c == 91 || c == 93)) || (c == 123 || c 
 abbrev pub is_inside : ℕ → Bool
 is_inside c = not (c == 34)
 
--- every byte but the line feed
-abbrev pub is_in_line : ℕ → Bool
-is_in_line c = not (c == 10)
+-- the bytes that end a comment: line feed and carriage return
+abbrev pub ends_comment : ℕ → Bool
+ends_comment c = c == 10 || c == 13
 
 -- every byte from i to before e is of the class
 pub record IsRun (class : ℕ → Bool) (b : Bytes) (i e : ℕ) : Type 0 where
@@ -51,15 +47,3 @@ pub record IsRun (class : ℕ → Bool) (b : Bytes) (i e : ℕ) : Type 0 where
 abbrev pub Spells : List ℕ → Bytes → ℕ → Type 0
 Spells [] b i = Unit {0}
 Spells (c ∷ word) b i = (slice_index b i ≡ c) × Spells word b (i + 1)
-
--- i is the first byte of a line
-abbrev pub BeginsLine : Bytes → ℕ → Type 0
-BeginsLine b i = (i ≡ 0) ⊎ (slice_index b (i - 1) ≡ 10)
-
--- i is where a line ends, before its line feed or at the end of the text
-abbrev pub EndsLine : Bytes → ℕ → Type 0
-EndsLine b i = (i ≡ length b) ⊎ (slice_index b i ≡ 10)
-
--- spaces and tabs alone stand before i on its line
-abbrev pub IsIndented : Bytes → ℕ → Type 0
-IsIndented b i = (start : ℕ) × (BeginsLine b start × IsRun is_space b start i)

@@ -1,7 +1,7 @@
 pub mod Bytes
-pub mod Texts
+pub mod Nesting
 pub mod Names
+pub mod Texts
 pub mod LeftOut
 pub mod Lists
-pub mod Nesting
 pub mod Ends

@@ -16,7 +16,7 @@ fn mark(token: Token, text: &[u8]) -> u8
 }
 
 /// How many brackets are open behind a mark.
-fn then_open(depth: u64, mark: u8) -> u64
+pub fn then_open(depth: u64, mark: u8) -> u64
     requires { depth + 1 < 2 ^ 64 }
     ensures { result ≡ spec.then_open depth mark }
 {

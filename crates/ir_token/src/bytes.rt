@@ -38,10 +38,10 @@ pub fn is_blank(c: u8) -> bool
     c == b' ' || c == b'\t' || c == b'\r' || c == b'\n'
 }
 
-pub fn is_space(c: u8) -> bool
-    ensures { result ≡ spec.is_space c }
+pub fn ends_comment(c: u8) -> bool
+    ensures { result ≡ spec.ends_comment c }
 {
-    c == b' ' || c == b'\t'
+    c == b'\n' || c == b'\r'
 }
 
 pub fn begins_word(c: u8) -> bool

@@ -1,9 +1,9 @@
-//! Where what begins at a place ends: strings, names and lines that are not read.
-ghost use Rattle.std.specs.Prelude.{◌≡◌, ◌<◌, ◌≤◌, length};
+//! Where strings and names end that begin at a place.
+ghost use Rattle.std.specs.Prelude.{◌≡◌, ◌≤◌, length};
 ghost use Rattle.ir_token.specs.Ends as spec;
 
 use crate::bytes::{byte, is_label};
-use crate::runs::{indented, past_digits, past_inside, past_label};
+use crate::runs::{past_digits, past_inside, past_label, past_meta};
 
 /// The end of the string at a place, or the place where none is.
 #[tactic(auto, using(crate::proofs::Past::past_within))]
@@ -37,37 +37,23 @@ pub fn name_end(text: &[u8], at: usize) -> usize
     }
 }
 
+/// The end of the bytes of a Meta at a place, or the place where none are.
+pub fn meta_end(text: &[u8], at: usize) -> usize
+    requires { at ≤ length text.now }
+    ensures value { result ≡ spec.meta_end text.now at }
+    ensures within { (at ≤ result) × (result ≤ length text.now) }
+{
+    if byte(text, at).is_ascii_digit() {
+        past_digits(text, at)
+    } else {
+        past_meta(text, at)
+    }
+}
+
 /// Whether a double quote at a place has no other behind it.
 pub fn is_unclosed(text: &[u8], at: usize) -> bool
     requires { at ≤ length text.now }
     ensures { result ≡ spec.is_unclosed text.now at }
 {
     byte(text, at) == b'"' && string_end(text, at) == at
-}
-
-fn begins_line(text: &[u8], at: usize) -> bool
-    requires { at < length text.now }
-    ensures { result ≡ spec.begins_line text.now at }
-{
-    at == 0 || text[at - 1] == b'\n'
-}
-
-fn begins_record(text: &[u8], at: usize) -> bool
-    requires { at < length text.now }
-    ensures { result ≡ spec.begins_record text.now at }
-{
-    byte(text, at) == b'#'
-        && byte(text, at + 1) == b'd'
-        && byte(text, at + 2) == b'b'
-        && byte(text, at + 3) == b'g'
-        && byte(text, at + 4) == b'_'
-}
-
-/// Whether a line that is not read begins at a place.
-pub fn begins_opaque(text: &[u8], at: usize) -> bool
-    requires { at < length text.now }
-    ensures { result ≡ spec.begins_opaque text.now at }
-{
-    ((text[at] == b'!' || text[at] == b'$') && begins_line(text, at))
-        || (begins_record(text, at) && indented(text, at))
 }

@@ -5,8 +5,10 @@ ghost use Rattle.ir_token.specs.Bytes.{begins_word, is_label, is_punct};
 ghost use Rattle.ir_token.specs.Ends as spec;
 
 use crate::bytes::{begins_word, byte, is_label, is_punct};
-use crate::ends::{begins_opaque, is_unclosed, name_end, string_end};
-use crate::runs::{past_digits, past_line, past_meta, past_word};
+use crate::ends::{is_unclosed, meta_end, name_end, string_end};
+use crate::names::bears_name;
+use crate::opaque::{begins_opaque, opaque_end};
+use crate::runs::{past_digits, past_word};
 use crate::token::Kind;
 
 /// What begins at a place: a token and its end, nothing, or a string that is not closed.
@@ -52,7 +54,7 @@ fn named(text: &[u8], at: usize, kind: Kind) -> Found
     }
 }
 
-/// A comdat that begins no line.
+/// A comdat that begins no Opaque.
 fn comdat(text: &[u8], at: usize) -> Found
     requires inside { at < length text.now }
     requires begins { slice_index text.now at ≡ 36 }
@@ -71,14 +73,14 @@ fn comdat(text: &[u8], at: usize) -> Found
     }
 }
 
-/// Metadata that begins no line.
+/// Metadata that begins no Opaque.
 fn meta(text: &[u8], at: usize) -> Found
     requires inside { at < length text.now }
     requires begins { slice_index text.now at ≡ 33 }
     requires plain { spec.begins_opaque text.now at ≡ false }
     ensures { spec.StandsByEnds text.now at result }
 {
-    let end = past_meta(text, at + 1);
+    let end = meta_end(text, at + 1);
     if end > at + 1 {
         Found::Token(Kind::Meta, end)
     } else {
@@ -183,8 +185,9 @@ fn unlabelled(text: &[u8], at: usize) -> Found
     }
 }
 
-/// What begins where no line that is not read does; `run` is the end of the run of label bytes.
+/// What begins where no Opaque does; `run` is the end of the run of label bytes.
 #[inline(always)]
+#[tactic(auto, using(crate::proofs::Firsts::bad_byte))]
 fn read_token(text: &[u8], at: usize, run: usize) -> Found
     requires inside { at < length text.now }
     requires run { run ≡ spec.past is_label text.now at }
@@ -212,7 +215,7 @@ fn read_token(text: &[u8], at: usize, run: usize) -> Found
     }
 }
 
-/// What begins at a place, by the ends there.
+/// What begins at a place, by the ends there. An Opaque that begins is taken or refused.
 #[inline(always)]
 fn found_by_ends(text: &[u8], at: usize, run: usize) -> Found
     requires inside { at < length text.now }
@@ -220,7 +223,10 @@ fn found_by_ends(text: &[u8], at: usize, run: usize) -> Found
     ensures { spec.StandsByEnds text.now at result }
 {
     if begins_opaque(text, at) {
-        Found::Token(Kind::Opaque, past_line(text, at))
+        match opaque_end(text, at) {
+            Some(end) => Found::Token(Kind::Opaque, end),
+            None => Found::Bad,
+        }
     } else {
         read_token(text, at, run)
     }
@@ -234,5 +240,15 @@ pub fn found_at(text: &[u8], at: usize, run: usize) -> Found
     requires run { run ≡ spec.past is_label text.now at }
     ensures { spec.Stands text.now at result }
 {
-    found_by_ends(text, at, run)
+    match found_by_ends(text, at, run) {
+        Found::Token(kind, end) => {
+            if bears_name(text, kind, at, end) {
+                Found::Token(kind, end)
+            } else {
+                Found::Bad
+            }
+        }
+        Found::Bad => Found::Bad,
+        Found::Open => Found::Open,
+    }
 }

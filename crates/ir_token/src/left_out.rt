@@ -6,11 +6,12 @@ ghost use Rattle.std.specs.Str.Parse.{digits_value};
 ghost use Rattle.ir_token.specs.LeftOut as spec;
 ghost use Rattle.ir_token.specs.Names.{name_of, read};
 ghost use Rattle.ir_token.specs.Texts.{IsToken};
+ghost use Rattle.ir_token.specs.Ends.{begins};
 
 use crate::bytes::byte;
 use crate::found::{Found, found_at};
-use crate::names::{has_front, is_named};
-use crate::runs::{past_blanks, past_label};
+use crate::names::{all_digits, has_front, is_named};
+use crate::runs::{past_gap, past_label};
 use crate::token::Kind;
 use crate::words::{KEPT_NAMES, LEFT_LENGTHS, LEFT_NAMES, LEFT_WORDS};
 
@@ -79,12 +80,6 @@ fn width_of(digits: &[u8]) -> u32
     width
 }
 
-fn all_digits(text: &[u8]) -> bool
-    ensures { result ≡ list_all is_ascii_digit text.now }
-{
-    text.iter().all(|c| c.is_ascii_digit())
-}
-
 /// Whether the word is a type of integers whose width is 0 or above 64.
 fn is_left_width(word: &[u8]) -> bool
     ensures { result ≡ spec.is_left_width word.now }
@@ -132,7 +127,7 @@ fn is_one_of(inside: &[u8], quoted: bool, names: &[&[u8]]) -> bool
 }
 
 fn is_left_read(inside: &[u8], quoted: bool) -> bool
-    ensures { result ≡ spec.is_left_name (read quoted inside.now) }
+    ensures { result ≡ spec.are_left (read quoted inside.now) }
 {
     has_one_front(inside, quoted, LEFT_NAMES) && !is_one_of(inside, quoted, KEPT_NAMES)
 }
@@ -155,13 +150,19 @@ fn is_int(kind: Kind) -> bool
     matches!(kind, Kind::Int)
 }
 
+fn begins_int(c: u8) -> bool
+    ensures { result ≡ begins Kind.Int c }
+{
+    c.is_ascii_digit() || c == b'-'
+}
+
 /// Whether the next token from a place on is an integer.
 fn int_follows(text: &[u8], from: usize) -> bool
     requires { from ≤ length text.now }
     ensures { IsTrue result ↔ ((to : ℕ) × IsToken text.now (spec.past_gap text.now from) Kind.Int to) }
 {
-    let at = past_blanks(text, from);
-    if at == text.len() {
+    let at = past_gap(text, from);
+    if !begins_int(byte(text, at)) {
         return false;
     }
     match found_at(text, at, past_label(text, at)) {

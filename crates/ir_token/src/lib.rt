@@ -11,6 +11,7 @@ mod found;
 mod laws;
 mod left_out;
 mod names;
+mod opaque;
 mod runs;
 mod scan;
 mod token;
@@ -27,5 +28,5 @@ pub const MAX_BYTES: usize = 67_108_864;
 /// The greatest number of tokens of a text.
 pub const MAX_TOKENS: usize = 16_000_000;
 
-#[cfg(test)]
-mod tests;
+/// The greatest number of digits of a name that is a number.
+pub const MAX_DIGITS: usize = 9;

@@ -1,12 +1,17 @@
-//! Names as they are compared, read byte by byte: the name in `inside` is what the escapes of a
-//! string stand for where it is quoted, and else the bytes themselves.
-ghost use Rattle.std.specs.Prelude.{◌≡◌, ◌<◌, ◌≤◌, ◌∷◌, min, length, drop, slice_index};
-ghost use Rattle.std.specs.Char.{digit_value};
+//! Names, read byte by byte: the name in `inside` is what the escapes of a string stand for where it
+//! is quoted, and else the bytes themselves.
+ghost use Rattle.std.specs.Prelude.{◌≡◌, ◌<◌, ◌≤◌, ◌∷◌, min, length, drop, slice_index, slice_range};
+ghost use Rattle.std.specs.List.{list_all};
+ghost use Rattle.std.specs.Char.{digit_value, is_ascii_digit};
 ghost use Rattle.std.specs.Str.{bytes_eq};
+ghost use Rattle.ir_token.specs.Names as spec;
 ghost use Rattle.ir_token.specs.Names.{read, unescaped};
+ghost use Rattle.ir_token.specs.Texts.{IsText};
 ghost use Rattle.ir_token.specs.LeftOut.{begins_with};
 
+use crate::MAX_DIGITS;
 use crate::bytes::byte;
+use crate::token::Kind;
 
 /// The value of a hexadecimal digit, and 16 for every other byte.
 fn hex_digit(c: u8) -> u8
@@ -87,4 +92,52 @@ pub fn is_named(inside: &[u8], quoted: bool, name: &[u8]) -> bool
         at = next;
     }
     at == inside.len()
+}
+
+pub fn all_digits(text: &[u8]) -> bool
+    ensures { result ≡ list_all is_ascii_digit text.now }
+{
+    text.iter().all(|c| c.is_ascii_digit())
+}
+
+/// Whether the inside of a string is read as one byte or more, none of them zero.
+fn is_proper(inside: &[u8]) -> bool
+    ensures { result ≡ spec.is_proper (unescaped inside.now) }
+{
+    let mut at = 0;
+    while at < inside.len() {
+        let (read, next) = read_byte(inside, true, at);
+        if read == 0 {
+            return false;
+        }
+        at = next;
+    }
+    !inside.is_empty()
+}
+
+/// Whether bytes write a name.
+fn writes_name(name: &[u8]) -> bool
+    requires { slice_index name.now 0 ≡ 34 → 1 < length name.now }
+    ensures { result ≡ spec.writes_name name.now }
+{
+    if byte(name, 0) == b'"' {
+        is_proper(&name[1..name.len() - 1])
+    } else {
+        name.len() <= MAX_DIGITS || !all_digits(name)
+    }
+}
+
+/// Whether the bytes of a text write a name, where its kind has one.
+pub fn bears_name(text: &[u8], kind: Kind, at: usize, end: usize) -> bool
+    requires within { end ≤ length text.now }
+    requires is { IsText kind text.now at end }
+    ensures { result ≡ spec.bears_name text.now kind at end }
+{
+    match kind {
+        Kind::Global | Kind::Local | Kind::Comdat | Kind::Group => {
+            writes_name(&text[at + 1..end])
+        }
+        Kind::Label => writes_name(&text[at..end - 1]),
+        _ => true,
+    }
 }

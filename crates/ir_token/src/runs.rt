@@ -2,10 +2,10 @@
 ghost use Rattle.std.specs.Prelude.{◌≡◌, ◌<◌, ◌≤◌, length};
 ghost use Rattle.std.specs.Char.{is_ascii_digit};
 ghost use Rattle.ir_token.specs.Bytes as spec;
-ghost use Rattle.ir_token.specs.Ends.{past, is_indented};
-ghost use Rattle.ir_token.specs.LeftOut.{past_gap};
+ghost use Rattle.ir_token.specs.Ends.{past};
+ghost use Rattle.ir_token.specs.LeftOut as left;
 
-use crate::bytes::{is_blank, is_label, is_meta, is_space, is_word};
+use crate::bytes::{ends_comment, is_blank, is_label, is_meta, is_word};
 
 pub fn past_word(text: &[u8], at: usize) -> usize
     requires { at ≤ length text.now }
@@ -68,14 +68,13 @@ pub fn past_inside(text: &[u8], at: usize) -> usize
     end
 }
 
-/// The place of the next line feed.
-pub fn past_line(text: &[u8], at: usize) -> usize
+pub fn past_blanks(text: &[u8], at: usize) -> usize
     requires { at ≤ length text.now }
-    ensures value { result ≡ past spec.is_in_line text.now at }
+    ensures value { result ≡ past spec.is_blank text.now at }
     ensures within { (at ≤ result) × (result ≤ length text.now) }
 {
     let mut end = at;
-    while end < text.len() && text[end] != b'\n' {
+    while end < text.len() && is_blank(text[end]) {
         end += 1;
     }
     end
@@ -83,32 +82,20 @@ pub fn past_line(text: &[u8], at: usize) -> usize
 
 /// The first place that is in no blank and in no comment.
 #[tactic(auto, using(crate::proofs::Gaps::gap_moves, crate::proofs::Gaps::gap_none, crate::proofs::Gaps::gap_end))]
-pub fn past_blanks(text: &[u8], at: usize) -> usize
+pub fn past_gap(text: &[u8], at: usize) -> usize
     requires { at ≤ length text.now }
-    ensures value { result ≡ past_gap text.now at }
+    ensures value { result ≡ left.past_gap text.now at }
     ensures within { (at ≤ result) × (result ≤ length text.now) }
 {
     let mut end = at;
     let mut in_comment = false;
     while end < text.len() && (in_comment || is_blank(text[end]) || text[end] == b';') {
         in_comment = if in_comment {
-            text[end] != b'\n'
+            !ends_comment(text[end])
         } else {
             text[end] == b';'
         };
         end += 1;
     }
     end
-}
-
-/// Whether spaces and tabs alone stand before the place on its line.
-pub fn indented(text: &[u8], at: usize) -> bool
-    requires { at ≤ length text.now }
-    ensures { result ≡ is_indented text.now at }
-{
-    let mut start = at;
-    while start > 0 && is_space(text[start - 1]) {
-        start -= 1;
-    }
-    start == 0 || text[start - 1] == b'\n'
 }

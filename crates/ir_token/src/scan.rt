@@ -7,13 +7,13 @@ ghost use Rattle.ir_token.specs.Lists as spec;
 use crate::MAX_TOKENS;
 use crate::found::{Found, found_at};
 use crate::left_out::is_left;
-use crate::runs::{past_blanks, past_label};
+use crate::runs::{past_gap, past_label};
 use crate::token::{LexRefusal, Token, Tokens};
 use attr_ids::{Sequence, Span};
 use std::alloc::Global;
 
-/// The tokens of a text. It is refused at the first byte at which no token begins, string that has no
-/// end, or token that is left out; and else for more than 16,000,000 tokens, counted to its end.
+/// The tokens of a text. It is refused at the first byte at which no token can be taken, string that
+/// has no end, or token that is left out; and else for more than 16,000,000 tokens, counted to its end.
 pub fn tokens(alloc: Global, text: &[u8]) -> Result<Tokens, LexRefusal>
     requires { length text.now ≤ MAX_BYTES }
     ensures list { IfOk result (λ toks. spec.AreTokens text.now toks) }
@@ -30,8 +30,10 @@ pub fn tokens(alloc: Global, text: &[u8]) -> Result<Tokens, LexRefusal>
 {
     let mut items = Vec::new(alloc);
     let mut count = 0;
-    let mut at = past_blanks(text, 0);
+    let mut at = past_gap(text, 0);
     let mut run = at;
+    // One pass: a byte of a closed part is looked at once, a name once more when its token is known, and of blanks those
+    // behind a Meta or a Comdat alone are looked at twice.
     while at < text.len() {
         if run <= at {
             run = past_label(text, at);
@@ -52,7 +54,7 @@ pub fn tokens(alloc: Global, text: &[u8]) -> Result<Tokens, LexRefusal>
             items.push(Token { kind, span })?;
         }
         count += 1;
-        at = past_blanks(text, end);
+        at = past_gap(text, end);
     }
     if count > MAX_TOKENS {
         return Err(LexRefusal::TooMany {

@@ -26,13 +26,13 @@ pub enum Kind {
     CStr,
     /// `#` and digits: a group of attributes.
     Group,
-    /// `!` and a name of metadata.
+    /// `!` and digits, or `!` and a name of metadata.
     Meta,
     /// One of `( ) [ ] { } < > , =`.
     Punct,
     /// `...`
     Dots,
-    /// A line that is not read: of metadata, of a comdat, or a debug record.
+    /// A text whose inside is not read: metadata, a comdat, or a debug record.
     Opaque,
 }
 
@@ -49,7 +49,8 @@ pub type Tokens = Sequence<Token>;
 /// Why a text has no token list, with offsets in bytes from 0.
 #[derive(Clone, Copy, Debug, PartialEq, Eq, Error)]
 pub enum LexRefusal {
-    /// No token can begin at this byte.
+    /// No token can be taken at this byte: none begins, an Opaque that begins has no end, or the name
+    /// that is written there is none.
     #[error("no token begins at byte {at}")]
     BadByte { at: u32 },
     /// A string that begins here, or behind the one byte here, is not closed.

@@ -1,9 +1,9 @@
 -- The tokens of a text of the slice, as a relation on the whole text.
-use Rattle.std.specs.Prelude.{◌≡◌, ◌<◌, ◌≤◌, ◌+◌, ◌-◌, ◌==◌, ◌&&◌, ◌||◌, ℕ, suc, Bool, true, false, not, List, [], ◌∷◌, length, take, drop, Option, None, Some, codes, if◌then◌else◌}
+use Rattle.std.specs.Prelude.{◌≡◌, ◌<◌, ◌≤◌, ◌+◌, ◌-◌, ◌==◌, ◌&&◌, ◌||◌, ℕ, suc, Bool, true, false, not, List, [], ◌∷◌, length, take, drop, Option, None, Some, slice_index, codes, if◌then◌else◌}
 use Rattle.std.specs.List.{list_all, starts_with}
 use Rattle.std.specs.Str.{bytes_eq}
 use Rattle.std.specs.Char.{is_ascii_digit, is_ascii_alphabetic}
-use Rattle.std.specs.Prelude.{nat_eq}
+use Rattle.std.specs.Prelude.{nat_eq, nat_lt}
 use Rattle.slice_text.specs.declared.token.Symbol.{Symbol}
 use Rattle.slice_text.specs.declared.token.Symbol.TheVariants as symbol
 use Rattle.slice_text.specs.declared.token.Token.{Token}
@@ -95,16 +95,24 @@ is_left_out z =
     || (begins_with (codes "@llvm.lifetime.") z
     && not (bytes_eq z (codes "@llvm.lifetime.start.p0")) && not (bytes_eq z (codes "@llvm.lifetime.end.p0")))
 
--- the token t stands at i, and if it is a name, it is not left out
+-- a number behind its `@` that is not read: with a zero in front, so that one number is written in one way, or of more than nine digits
+abbrev pub is_unread_number : List ℕ → Bool
+is_unread_number z = nat_lt 2 (length z) && (list_all is_ascii_digit (drop 1 z) && (slice_index z 1 == 48 || nat_lt 10 (length z)))
+
+-- a name that is not read
+unfoldable pub is_unread : List ℕ → Bool
+is_unread z = is_left_out z || is_unread_number z
+
+-- the token t stands at i, and if it is a name, it is read
 pub record IsTokenAt (b : List ℕ) (i : ℕ) (t : Token) : Type 0 where
   pub starts : t.span.from ≡ i
   pub token : IsToken b i t.symbol t.span.to
-  pub kept : t.symbol ≡ symbol.Global → is_left_out (piece b i t.span.to) ≡ false
+  pub kept : t.symbol ≡ symbol.Global → is_unread (piece b i t.span.to) ≡ false
 
--- how many bytes at the front are blanks and comments; first: is a comment open
+-- how many bytes at the front are blanks and comments, which end before a line feed or a carriage return; first: is a comment open
 abbrev pub gap_len : Bool → List ℕ → ℕ
 gap_len comment [] = 0
-gap_len true (c ∷ z) = suc (gap_len (not (c == 10)) z)
+gap_len true (c ∷ z) = suc (gap_len (not (c == 10 || c == 13)) z)
 gap_len false (c ∷ z) = if c == 59 then suc (gap_len true z) else (if is_blank c then suc (gap_len false z) else 0)
 
 -- the first place from i on that is in no blank and no comment

@@ -7,8 +7,6 @@
 mod entity;
 mod read;
 mod scan;
-#[cfg(test)]
-mod tests;
 mod token;
 
 pub use entity::{Body, Entities, Entity, Mention, Mentions};

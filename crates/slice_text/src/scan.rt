@@ -6,6 +6,7 @@ ghost use Rattle.slice_text.specs.declared.token.Token.{Token};
 ghost use Rattle.slice_text.specs.Tokens as spec;
 ghost use Rattle.slice_text.specs.Runs.{past, EndsName};
 ghost use Rattle.std.specs.Char.{is_ascii_digit};
+ghost use Rattle.std.specs.List.{list_all};
 ghost use Rattle.slice_text.specs.declared.scan.TextRefusal.TheVariants.{NoMemory};
 
 use crate::token::{Symbol, Token};
@@ -90,7 +91,7 @@ pub fn past_gap(text: &[u8], at: usize) -> usize
     while end < text.len() {
         let c = text[end];
         if comment {
-            comment = c != b'\n';
+            comment = c != b'\n' && c != b'\r';
         } else if c == b';' {
             comment = true;
         } else if !is_blank(c) {
@@ -150,6 +151,26 @@ fn is_left_out(name: &[u8]) -> bool
             && name != b"@llvm.lifetime.end.p0".as_slice())
 }
 
+fn all_digits(text: &[u8]) -> bool
+    ensures { result ≡ list_all is_ascii_digit text.now }
+{
+    text.iter().all(|c| c.is_ascii_digit())
+}
+
+/// Whether the name is a number that is not read: with a zero in front, or of more than nine digits.
+fn is_unread_number(name: &[u8]) -> bool
+    ensures { result ≡ spec.is_unread_number name.now }
+{
+    name.len() > 2 && all_digits(&name[1..]) && (name[1] == b'0' || name.len() > 10)
+}
+
+#[tactic(auto, unfolding(crate::specs::Tokens::is_unread))]
+fn is_unread(name: &[u8]) -> bool
+    ensures { result ≡ spec.is_unread name.now }
+{
+    is_left_out(name) || is_unread_number(name)
+}
+
 fn token(symbol: Symbol, from: usize, to: usize) -> Token
     requires order { from ≤ to }
     requires small { to ≤ 67108864 }
@@ -196,7 +217,7 @@ fn past_name_text(text: &[u8], at: usize) -> Option<usize>
     }
 }
 
-/// The name that stands at `at`, where there is one that is not left out.
+/// The name that stands at `at`, where there is one that is read.
 fn global_at(text: &[u8], at: usize) -> Option<Token>
     requires inside { at < length text.now }
     requires small { length text.now ≤ 67108864 }
@@ -207,7 +228,7 @@ fn global_at(text: &[u8], at: usize) -> Option<Token>
     let Some(end) = past_name_text(text, at + 1) else {
         return None;
     };
-    if is_left_out(&text[at..end]) {
+    if is_unread(&text[at..end]) {
         return None;
     }
     Some(token(Symbol::Global, at, end))

@@ -14,5 +14,9 @@ returns-else-end-at c =
 pub returns-else-text-at-eq99 : goal.returns-else-text-at-eq99
 returns-else-text-at-eq99 c =
     let unquoted : (eqb (slice_index c.args.text.now c.args.at) 99 && eqb (slice_index c.args.text.now (c.args.at + 1)) 34) ≡ false =
-    elim c.else-text-at-eq99.branch [ else-text-at-eq99-via-then-text-at-eq99+else-byte-eq34 w ↦ grind (arith, nat_tests) | else-text-at-eq99-via-else-text-at-eq99 w ↦ grind (arith, nat_tests) ] in
+    elim c.else-text-at-eq99.branch [
+      | else-text-at-eq99-via-then-text-at-eq99+else-byte-eq34 w ↦ grind
+          (arith, nat_tests)
+      | else-text-at-eq99-via-else-text-at-eq99 w ↦ grind (arith, nat_tests)
+    ] in
     word_token c.args.text.now c.args.at c.past_word.result c.requires.inside c.requires.begins unquoted c.requires.plain c.requires.unlabelled c.past_word.ensures.value c.past_word.ensures.within.1

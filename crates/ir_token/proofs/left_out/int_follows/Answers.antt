@@ -9,5 +9,8 @@ never h = cc
 
 pub returns-in-Bad : goal.returns-in-Bad
 returns-in-Bad c =
-    let P : ℕ → Type 0 = λ n. (x : ℕ) × IsToken c.args.text.now n Int x in
-    (λ h. absurd (never h), λ found. let here = subst P (sym c.past_blanks-at.ensures.value) found in absurd (not_bad c.args.text.now c.past_blanks-at.result Int here.0 c.in-Bad.ensures here.1))
+    let P : ℕ → Type 0 = λ n. (x : ℕ) × IsToken c.args.text.now n Int x in (
+      λ h. absurd (never h),
+      λ found. let here = subst P (sym c.past_gap-at.ensures.value) found in
+          absurd (not_bad c.args.text.now c.past_gap-at.result Int here.0 c.in-Bad.ensures here.1),
+    )

@@ -10,5 +10,7 @@ returns-then-first-le122 c =
 
 pub returns-else-first-ge97 : goal.returns-else-first-ge97
 returns-else-first-ge97 c =
-    let out : (slice_index c.args.word.now 0 < 97) ⊎ (122 < slice_index c.args.word.now 0) = ⊎_elim (λ high. inr (omega (arith, c.byte-first.ensures.value, high.1))) (λ low. inl (omega (arith, c.byte-first.ensures.value, low))) c.else-first-ge97.either in
+    let out : (slice_index c.args.word.now 0 < 97) ⊎ (122 < slice_index c.args.word.now 0) = ⊎_elim
+    (λ high. inr (omega (arith, c.byte-first.ensures.value, high.1)))
+    (λ low. inl (omega (arith, c.byte-first.ensures.value, low))) c.else-first-ge97.either in
     sym (in_no_row c.args.word.now out)

@@ -6,7 +6,8 @@ use Rattle.ir_token.specs.Texts.{IsToken}
 use Rattle.ir_token.specs.LeftOut.{IsLeft, past_gap}
 use Rattle.ir_token.specs.Ends.{past}
 use Rattle.ir_token.proofs.Past.{past_within}
-use Rattle.ir_token.specs.Lists.{Reaches}
+use Rattle.ir_token.specs.Lists.{Reaches, Reads}
+use Rattle.attr_ids.specs.declared.insertion.Span.{Span}
 use Rattle.ir_token.specs.Lists.Reading.{Listed, BadAt, OpenAt, LeftAt}
 use Rattle.ir_token.proofs.Chains.{IsScanned, scanned_kept, scanned_counted, run_stays}
 use Rattle.ir_token.proofs.Unique.{tells_all, token_moves}
@@ -37,20 +38,32 @@ loop-at-preserved c =
     let read = c.loop-at.invariant.0 in
     let token : IsToken c.args.text.now c.loop-at.at c.in-Token.kind c.in-Token.end = c.in-Token.ensures in
     let moves : c.loop-at.at < c.in-Token.end = token_moves c.args.text.now c.loop-at.at c.in-Token.kind c.in-Token.end token in
-    let kept = λ (left : IsLeft c.args.text.now c.loop-at.at c.in-Token.kind c.in-Token.end). both c.is_left.result (c.is_left.ensures.1 left) c.if-is_left.false in
-    let gap = sym c.past_blanks-at-in-loop-at.ensures.value in
-    let run : c.if-run-at.run ≡ past is_label c.args.text.now c.loop-at.at = elim c.if-run-at.branch [ then-run-at w ↦ w.run-is ∙ w.past_label-run.ensures.value | else-run-at w ↦ w.run-is ∙ sym (c.loop-at.invariant.4 w.if-run-at.false) ] in
+    let kept = λ (left : IsLeft c.args.text.now c.loop-at.at c.in-Token.kind c.in-Token.end). both c.is_left.result
+    (c.is_left.ensures.1 left) c.if-is_left.false in
+    let gap = sym c.past_gap-at-in-loop-at.ensures.value in
+    let run : c.if-run-at.run ≡ past is_label c.args.text.now c.loop-at.at = elim c.if-run-at.branch [
+      | then-run-at w ↦ w.run-is
+          ∙ w.past_label-run.ensures.value
+      | else-run-at w ↦ w.run-is ∙ sym (c.loop-at.invariant.4 w.if-run-at.false)
+    ] in
     let top : c.if-run-at.run ≤ length c.args.text.now = omega (arith, (past_within is_label c.args.text.now c.loop-at.at c.loop-at.invariant.1).1) in
     let scanned : IsScanned MAX_TOKENS c.args.text.now c.if-count-lt-MAX_TOKENS.items.items (c.loop-at.count + 1) (past_gap c.args.text.now c.in-Token.end) =
     elim c.if-count-lt-MAX_TOKENS.branch [
-      | then-count-lt-MAX_TOKENS+in_ok-push w ↦ subst (λ items. IsScanned MAX_TOKENS c.args.text.now items (c.loop-at.count + 1) (past_gap c.args.text.now c.in-Token.end)) (sym (ap (λ v. v.items) w.items-is ∙ w.in_ok-push.ensures.items)) (scanned_kept MAX_TOKENS c.args.text.now c.loop-at.items.items c.loop-at.count c.loop-at.at c.in-Token.kind c.in-Token.end read token kept)
-      | else-count-lt-MAX_TOKENS w ↦ subst (λ items. IsScanned MAX_TOKENS c.args.text.now items (c.loop-at.count + 1) (past_gap c.args.text.now c.in-Token.end)) (sym (ap (λ v. v.items) w.items-is)) (scanned_counted MAX_TOKENS c.args.text.now c.loop-at.items.items c.loop-at.count c.loop-at.at c.in-Token.kind c.in-Token.end w.if-count-lt-MAX_TOKENS.false read token kept)
+      | then-count-lt-MAX_TOKENS+in_ok-push w ↦ subst
+          (λ items. IsScanned MAX_TOKENS c.args.text.now items (c.loop-at.count + 1) (past_gap c.args.text.now c.in-Token.end))
+          (sym (ap (λ v. v.items) w.items-is ∙ w.in_ok-push.ensures.items))
+          (scanned_kept MAX_TOKENS c.args.text.now c.loop-at.items.items c.loop-at.count c.loop-at.at c.in-Token.kind c.in-Token.end read token kept)
+      | else-count-lt-MAX_TOKENS w ↦ subst
+          (λ items. IsScanned MAX_TOKENS c.args.text.now items (c.loop-at.count + 1) (past_gap c.args.text.now c.in-Token.end))
+          (sym (ap (λ v. v.items) w.items-is))
+          (scanned_counted MAX_TOKENS c.args.text.now c.loop-at.items.items c.loop-at.count c.loop-at.at c.in-Token.kind c.in-Token.end w.if-count-lt-MAX_TOKENS.false read token kept)
     ] in (
       subst (λ at. IsScanned MAX_TOKENS c.args.text.now c.if-count-lt-MAX_TOKENS.items.items (c.loop-at.count + 1) at) gap scanned,
-      c.past_blanks-at-in-loop-at.ensures.within.1,
-      omega (arith, c.past_blanks-at-in-loop-at.ensures.within.0),
+      c.past_gap-at-in-loop-at.ensures.within.1,
+      omega (arith, c.past_gap-at-in-loop-at.ensures.within.0),
       top,
-      λ inside. run_stays c.args.text.now c.loop-at.at c.past_blanks-at-in-loop-at.result c.if-run-at.run (omega (arith, c.past_blanks-at-in-loop-at.ensures.within.0)) run top inside,
+      λ inside. run_stays c.args.text.now c.loop-at.at c.past_gap-at-in-loop-at.result c.if-run-at.run
+          (omega (arith, c.past_gap-at-in-loop-at.ensures.within.0)) run top inside,
     )
 
 pub returns-then-count-gt-MAX_TOKENS-clause-only : goal.returns-then-count-gt-MAX_TOKENS-clause-only
@@ -58,7 +71,8 @@ returns-then-count-gt-MAX_TOKENS-clause-only c =
     let read = c.loop-at.invariant.0 in
     let end : c.loop-at.at ≡ length c.args.text.now = omega arith in
     let many : MAX_TOKENS < c.loop-at.count = omega arith in
-    tells_all c.args.text.now (Err (TooMany c.loop-at.count)) (Listed read.tokens) (subst (λ at. Reaches c.args.text.now 0 read.tokens at) end read.chain) (sym read.counted, many)
+    tells_all c.args.text.now (Err (TooMany c.loop-at.count)) (Listed read.tokens) (subst (λ at. Reaches c.args.text.now 0 read.tokens at) end read.chain)
+    (sym read.counted, many)
 
 pub returns-clause-only : goal.returns-clause-only
 returns-clause-only c =
@@ -66,4 +80,17 @@ returns-clause-only c =
     let end : c.loop-at.at ≡ length c.args.text.now = omega arith in
     let few : c.loop-at.count ≤ MAX_TOKENS = omega arith in
     let counted : length read.tokens ≤ MAX_TOKENS = omega (arith, read.counted) in
-    tells_all c.args.text.now (Ok c.from_vec.result) (Listed read.tokens) (subst (λ at. Reaches c.args.text.now 0 read.tokens at) end read.chain) (c.from_vec.ensures ∙ read.kept few, counted)
+    tells_all c.args.text.now (Ok c.from_vec.result) (Listed read.tokens) (subst (λ at. Reaches c.args.text.now 0 read.tokens at) end read.chain)
+    (c.from_vec.ensures ∙ read.kept few, counted)
+
+pub returns-then-is_left-clause-left_out : goal.returns-then-is_left-clause-left_out
+returns-then-is_left-clause-left_out c = λ word told.
+    let read = c.loop-at.invariant.0 in
+    let same : record { from = c.loop-at.at; to = c.in-Token.end } ≡ word = cc in
+    subst (λ (w : Span). Reads c.args.text.now (LeftAt w.from w.to)) same
+    ((read.tokens, read.chain), (c.in-Token.kind, (c.in-Token.ensures, c.is_left.ensures.0 c.if-is_left.true)))
+
+pub loop-at-smaller : goal.loop-at-smaller
+loop-at-smaller c =
+    let moves : c.loop-at.at < c.in-Token.end = token_moves c.args.text.now c.loop-at.at c.in-Token.kind c.in-Token.end c.in-Token.ensures in
+    omega (arith, c.past_gap-at-in-loop-at.ensures.within.0, c.past_gap-at-in-loop-at.ensures.within.1)
