@@ -1,5 +1,9 @@
 #!/usr/bin/env python3
-"""Prints crates/ir_ops/src/edge_answers.rt: what each operation answers on operands at the edges.
+"""Prints the rows of crates/module_rows for the integer operations: each question with its answer behind it.
+
+A row `int` names a width, an operation and operands at the edges, and is answered for each pair of them; a row
+`cast` names two widths and is answered for each operand. What stands before ` =` is a line of `stdin`, and the
+whole row one of `stdout`.
 
 The numbers come from Python's unbounded integers and from nothing of the repository: signed numbers
 are read by value, a quotient is rounded towards 0, a shift multiplies or divides by a power of two,
@@ -9,6 +13,8 @@ and the bitwise operations are counted bit by bit.
 WIDTHS = [1, 7, 8, 31, 32, 33, 63, 64]
 OPERATIONS = "Add Sub Mul And Or Xor Shl LShr AShr UDiv URem SDiv SRem".split()
 PREDICATES = "Eq Ne Ugt Uge Ult Ule Sgt Sge Slt Sle".split()
+WIDER = [(1, 8), (7, 8), (8, 31), (31, 64), (33, 63), (63, 64)]
+NARROWER = [(8, 1), (8, 7), (31, 8), (64, 31), (63, 33), (64, 63)]
 
 
 def edges(width):
@@ -69,40 +75,30 @@ def holds(width, predicate, a, b):
     }[predicate[-2:]]
 
 
-def row(name, words):
-    """The name, and a line for each left operand."""
-    lines = [" ".join(words[at : at + 5]) for at in range(0, len(words), 5)]
-    return f'"{name}: ' + " \\\n         ".join(lines) + '"'
+def converted(width, wanted, way, number):
+    value = signed(width, number) if way == "signed" else number
+    return f"{value % 2**wanted:x}"
 
 
-def table(name, names, comment, line):
-    print(f"\n/// {comment}")
-    print(f"pub const {name}: [[&str; {len(names)}]; {len(WIDTHS)}] = [")
-    for width in WIDTHS:
-        pairs = [(a, b) for a in edges(width) for b in edges(width)]
-        print("    [")
-        for each in names:
-            print(f"        {line(width, each, pairs)},")
-        print("    ],")
-    print("];")
+def row(question, operands, answers):
+    given = " ".join(f"{number:x}" for number in operands)
+    print(f"{question} {len(operands)} {given} = {' '.join(answers)}")
 
 
 def main():
-    print("//! Answers from outside, printed by bench/ir_ops/edge_answers.py: for each width a line for each")
-    print("//! operation, with the answers for each left operand out of 0, 1, the greatest and the least")
-    print("//! signed number, and all ones, with each of the same right operands.")
-    table(
-        "ANSWERS",
-        OPERATIONS,
-        "In hexadecimal.",
-        lambda width, each, pairs: row(each, [answer(width, each, a, b) for a, b in pairs]),
-    )
-    table(
-        "TRUTHS",
-        PREDICATES,
-        "1 where the predicate holds.",
-        lambda width, each, pairs: f'"{each}: ' + "".join(str(int(holds(width, each, a, b))) for a, b in pairs) + '"',
-    )
+    for width in WIDTHS:
+        pairs = [(a, b) for a in edges(width) for b in edges(width)]
+        for each in OPERATIONS:
+            row(f"int {width} {each}", edges(width), [answer(width, each, a, b) for a, b in pairs])
+        for each in PREDICATES:
+            row(f"int {width} {each}", edges(width), [str(int(holds(width, each, a, b))) for a, b in pairs])
+    for width, wanted in WIDER + NARROWER:
+        for way in ("signed", "unsigned") if width < wanted else ("unsigned",):
+            row(
+                f"cast {width} {wanted} {way}",
+                edges(width),
+                [converted(width, wanted, way, number) for number in edges(width)],
+            )
 
 
 main()

@@ -30,7 +30,8 @@ chosen : (b : Bool) (g f : FuncId) → (if b then Some g else None) ≡ Some f �
 chosen true g f e = cc
 chosen false g f e = cc
 
-inside_by : (m : Module) (t : FuncType) (g f : FuncId) (o : Option Func) → slice_get m.funcs g.0 ≡ o → (if is_type_of m t o then Some g else None) ≡ Some f → f.0 < length m.funcs
+inside_by : (m : Module) (t : FuncType) (g f : FuncId) (o : Option Func) → slice_get m.funcs g.0 ≡ o
+    → (if is_type_of m t o then Some g else None) ≡ Some f → f.0 < length m.funcs
 inside_by m t g f None e h = cc
 inside_by m t g f (Some func) e h =
     subst (λ (x : FuncId). x.0 < length m.funcs) (chosen (is_type_of m t (Some func)) g f h) (slice_get_within m.funcs g.0 func e)
@@ -41,6 +42,6 @@ named_inside m t _ f e = cc
 
 -- a direct call calls a function that is there
 pub callee_inside : (m : Module) (o : Op) (f : FuncId) → direct_callee m o ≡ Some f → f.0 < length m.funcs
-callee_inside m (op.Call func_ty callee args words places) f e = named_inside m func_ty callee.val f e
-callee_inside m (op.Invoke func_ty callee args words places normal unwind) f e = named_inside m func_ty callee.val f e
+callee_inside m (op.Call call) f e = named_inside m call.func_ty call.callee.val f e
+callee_inside m (op.Invoke call normal unwind) f e = named_inside m call.func_ty call.callee.val f e
 callee_inside m _ f e = cc

@@ -1,6 +1,5 @@
 pub mod Fitting
 pub mod Runs
 pub mod Spots
-pub mod Sizes
 pub mod Each
 pub mod WellFormed

@@ -6,7 +6,8 @@ use Rattle.ir_module.specs.declared.module.Block.{Block}
 use Rattle.ir_module.specs.declared.module.Func.{Func}
 use Rattle.ir_module.specs.declared.module.Module.{Module}
 use Rattle.ir_module.specs.Places.{IsSegIn, IsSegInBlock}
-use Rattle.ir_module.specs.Formed.{IsBlockOf, IsSegOf, IsWellFormed}
+use Rattle.ir_module.specs.Formed.{IsBlockOf, IsSegOf}
+use Rattle.ir_module.specs.WellFormed.{IsWellFormed}
 
 -- what was read of a list by a slice of it
 pub read_at : {X : Type 0} → (xs ys : List X) (i : ℕ) (x : X) → ys ≡ xs → i < length xs → x ≡ get_or ys i x → slice_get xs i ≡ Some x
@@ -20,21 +21,21 @@ there (x ∷ xs) (suc k) l = there xs k (omega (arith, l))
 -- a segment that stands in a block is one of its run
 pub is_of_run : (m : Module) (i k : ℕ) (b : Block) → IsWellFormed m → slice_get m.blocks i ≡ Some b → IsSegInBlock m i k → IsSegOf b k
 is_of_run m i k b w e r =
-    let p = w.places k r.seg r.at_seg in
+    let p = w.segs k r.seg r.at_seg in
     let at : slice_get m.blocks r.seg.block.0 ≡ Some p.0 = p.1 in
     let home : r.seg.block.0 ≡ i = r.in_block in
     let same : p.0 ≡ b = cc in
-    subst (λ (x : Block). IsSegOf x k) same p.2
+    subst (λ (x : Block). IsSegOf x k) same p.2.place
 
 pub is_in_block : (m : Module) (i k : ℕ) (b : Block) → IsWellFormed m → slice_get m.blocks i ≡ Some b → IsSegOf b k → IsSegInBlock m i k
-is_in_block m i k b w e h = let q = w.segs i k b e h in record { seg = q.0; at_seg = q.1; in_block = q.2 }
+is_in_block m i k b w e h = let q = (w.blocks i b e).segs k h in record { seg = q.0; at_seg = q.1; in_block = q.2 }
 
 -- a run of segments lies within the list
 pub run_within : (m : Module) (i : ℕ) (b : Block) → IsWellFormed m → slice_get m.blocks i ≡ Some b → b.first_seg + b.seg_count ≤ length m.segs
 run_within m i b w e =
-    let some : 0 < b.seg_count = w.filled i b e in
+    let some : 0 < b.seg_count = (w.blocks i b e).filled in
     let last : IsSegOf b (b.first_seg + (b.seg_count - 1)) = (omega arith, omega arith) in
-    let q = w.segs i (b.first_seg + (b.seg_count - 1)) b e last in
+    let q = (w.blocks i b e).segs (b.first_seg + (b.seg_count - 1)) last in
     let inside : b.first_seg + (b.seg_count - 1) < length m.segs = slice_get_within m.segs (b.first_seg + (b.seg_count - 1)) q.0 q.1 in
     omega arith
 
@@ -52,7 +53,7 @@ later m (suc d) i b c w e f =
     let before : slice_get m.blocks (i + d) ≡ Some p = slice_get-get_or m.blocks (i + d) c (omega arith) in
     let h = later m d i b p w e before in
     let next : slice_get m.blocks ((i + d) + 1) ≡ Some c = subst (λ (n : ℕ). slice_get m.blocks n ≡ Some c) sum f in
-    let o = w.order (i + d) p c before next in
+    let o = (w.blocks (i + d) p before).next c next in
     (omega (arith, h.0, o.1), omega (arith, h.1, o.1))
 
 -- a block that stands before another ends before it
@@ -65,7 +66,7 @@ ends_before m i j b c w e f l =
     let sum : j - 1 ≡ i + (j - 1 - i) = omega arith in
     let h = later m (j - 1 - i) i b p w e (subst (λ (n : ℕ). slice_get m.blocks n ≡ Some p) sum before) in
     let one : j ≡ (j - 1) + 1 = omega arith in
-    let o = w.order (j - 1) p c before (subst (λ (n : ℕ). slice_get m.blocks n ≡ Some c) one f) in
+    let o = (w.blocks (j - 1) p before).next c (subst (λ (n : ℕ). slice_get m.blocks n ≡ Some c) one f) in
     omega (arith, h.1, o.1)
 
 pub not_later : (m : Module) (i j : ℕ) (b c : Block) → IsWellFormed m → slice_get m.blocks i ≡ Some b → slice_get m.blocks j ≡ Some c → i ≤ j
@@ -79,12 +80,13 @@ pub in_body : (m : Module) (f k i j : ℕ) (func : Func) (b c : Block) → IsWel
     → j + 1 ≡ func.first_block + func.block_count → slice_get m.blocks i ≡ Some b → slice_get m.blocks j ≡ Some c
     → IsSegIn m f k → (b.first_seg ≤ k) × (k < c.first_seg + c.seg_count)
 in_body m f k i j func b c w at_f first last at_b at_c r =
-    let h = w.homes r.seg.block.0 r.block r.at_block in
+    let h = (w.blocks r.seg.block.0 r.block r.at_block).home in
     let home : slice_get m.funcs r.block.func.0 ≡ Some h.0 = h.1 in
     let here : r.block.func.0 ≡ f = r.in_func in
     let same : h.0 ≡ func = cc in
     let within : IsBlockOf func r.seg.block.0 = subst (λ (x : Func). IsBlockOf x r.seg.block.0) same h.2 in
-    let run : IsSegOf r.block k = is_of_run m r.seg.block.0 k r.block w r.at_block (let s : IsSegInBlock m r.seg.block.0 k = record { seg = r.seg; at_seg = r.at_seg; in_block = refl } in s) in
+    let home_run : IsSegInBlock m r.seg.block.0 k = record { seg = r.seg; at_seg = r.at_seg; in_block = refl } in
+    let run : IsSegOf r.block k = is_of_run m r.seg.block.0 k r.block w r.at_block home_run in
     let behind = not_later m i r.seg.block.0 b r.block w at_b r.at_block (omega (arith, within.0)) in
     let before = not_later m r.seg.block.0 j r.block c w r.at_block at_c (omega (arith, within.1)) in
     (omega (arith, behind.0, run.0), omega (arith, before.1, run.1))
@@ -93,12 +95,12 @@ pub of_body : (m : Module) (f k i j : ℕ) (func : Func) (b c : Block) → IsWel
     → j + 1 ≡ func.first_block + func.block_count → slice_get m.blocks i ≡ Some b → slice_get m.blocks j ≡ Some c
     → b.first_seg ≤ k → k < c.first_seg + c.seg_count → (seg : Seg) → slice_get m.segs k ≡ Some seg → IsSegIn m f k
 of_body m f k i j func b c w at_f first last at_b at_c low high seg at_seg =
-    let p = w.places k seg at_seg in
-    let run : IsSegOf p.0 k = p.2 in
+    let p = w.segs k seg at_seg in
+    let run : IsSegOf p.0 k = p.2.place in
     let above : (seg.block.0 < i → ⊥) = λ l. let e = ends_before m seg.block.0 i p.0 b w p.1 at_b l in omega (arith, e, run.1) in
     let below : (j < seg.block.0 → ⊥) = λ l. let e = ends_before m j seg.block.0 c p.0 w at_c p.1 l in omega (arith, e, run.0) in
     let within : IsBlockOf func seg.block.0 = (omega arith, omega arith) in
-    let q = w.blocks f seg.block.0 func at_f within in
+    let q = (w.funcs f func at_f).blocks seg.block.0 within in
     record { seg = seg; block = q.0; at_seg = at_seg; at_block = q.1; in_func = q.2 }
 
 -- a body's last block is there, and so is its first
@@ -106,13 +108,13 @@ pub last_block : (m : Module) (f : ℕ) (func : Func) → IsWellFormed m → sli
     → func.first_block + (func.block_count - 1) < length m.blocks
 last_block m f func w at some =
     let last : IsBlockOf func (func.first_block + (func.block_count - 1)) = (omega arith, omega arith) in
-    let q = w.blocks f (func.first_block + (func.block_count - 1)) func at last in
+    let q = (w.funcs f func at).blocks (func.first_block + (func.block_count - 1)) last in
     slice_get_within m.blocks (func.first_block + (func.block_count - 1)) q.0 q.1
 
 -- a declaration has no segments
 pub no_segs : (m : Module) (f k : ℕ) (func : Func) → IsWellFormed m → slice_get m.funcs f ≡ Some func → func.block_count ≡ 0 → IsSegIn m f k → ⊥
 no_segs m f k func w at none r =
-    let h = w.homes r.seg.block.0 r.block r.at_block in
+    let h = (w.blocks r.seg.block.0 r.block r.at_block).home in
     let home : slice_get m.funcs r.block.func.0 ≡ Some h.0 = h.1 in
     let here : r.block.func.0 ≡ f = r.in_func in
     let same : h.0 ≡ func = cc in

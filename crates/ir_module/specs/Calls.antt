@@ -1,13 +1,15 @@
 -- Calls: what a call of a function runs, which bodies the outside may enter, and what a call of the outside promises.
-use Rattle.std.specs.Prelude.{◌≡◌, ◌==◌, ◌||◌, ◌&&◌, not, ℕ, Bool, true, false, if◌then◌else◌, List, [], ◌∷◌, map, drop, slice_get, Option, None, Some, is_some}
+use Rattle.std.specs.Prelude.{◌==◌, ◌||◌, ◌&&◌, not, ℕ, Bool, true, false, if◌then◌else◌, List, [], ◌∷◌, map, drop, slice_get, Option, None, Some, is_some}
 use Rattle.std.specs.List.{list_any}
 use Rattle.std.specs.Option.{option_and_then, option_map_or}
+use Rattle.std.specs.Str.{bytes_eq}
 use Rattle.attr_ids.specs.declared.ids.TypeId.{TypeId}
 use Rattle.attr_ids.specs.declared.ids.FuncId.{FuncId}
 use Rattle.ir_types.specs.declared.ir_type.IrType.{IrType}
 use Rattle.ir_types.specs.declared.ir_type.IrType.TheVariants.{Void, Int, Ptr}
 use Rattle.ir_module.specs.declared.class.Class.{Class}
 use Rattle.ir_module.specs.declared.class.Class.TheVariants as class
+use Rattle.ir_module.specs.declared.op.Call.{Call}
 use Rattle.ir_module.specs.declared.op.Op.{Op}
 use Rattle.ir_module.specs.declared.op.Op.TheVariants as op
 use Rattle.ir_module.specs.declared.op.Symbol.{Symbol}
@@ -16,10 +18,11 @@ use Rattle.ir_module.specs.declared.op.Operand.{Operand}
 use Rattle.ir_module.specs.declared.op.Operand.TheVariants as operand
 use Rattle.ir_module.specs.declared.op.FuncType.{FuncType}
 use Rattle.ir_module.specs.declared.op.Written.{Written}
-use Rattle.ir_module.specs.declared.words.MemWord.{MemWord}
-use Rattle.ir_module.specs.declared.words.ParamWords.{ParamWords}
-use Rattle.ir_module.specs.declared.words.CallWords.{CallWords}
-use Rattle.ir_module.specs.declared.words.CallPlaces.{CallPlaces}
+use Rattle.ir_module.specs.declared.attrs.MemoryAttr.{MemoryAttr}
+use Rattle.ir_module.specs.declared.attrs.FuncAttrs.{FuncAttrs}
+use Rattle.ir_module.specs.declared.attrs.ParamAttrs.{ParamAttrs}
+use Rattle.ir_module.specs.declared.attrs.CallAttrs.{CallAttrs}
+use Rattle.ir_module.specs.declared.lifetime.TheConstants.{LIFETIME_NAMES}
 use Rattle.ir_module.specs.declared.module.Linkage.{Linkage}
 use Rattle.ir_module.specs.declared.module.Linkage.TheVariants as linkage
 use Rattle.ir_module.specs.declared.module.Param.{Param}
@@ -67,16 +70,14 @@ is_exact m f = is_exact_in (slice_get m.funcs f)
 
 -- ---- calls
 
-abbrev pub is_call : Op → Bool
-is_call (op.Call func_ty callee args words places) = true
-is_call (op.Invoke func_ty callee args words places normal unwind) = true
-is_call _ = false
+-- the call that an instruction is, where it is a `call` or an `invoke`
+abbrev pub call_of : Op → Option Call
+call_of (op.Call call) = Some call
+call_of (op.Invoke call normal unwind) = Some call
+call_of _ = None
 
--- the instruction is a `call` or an `invoke` with these fields
-abbrev pub IsCallOf : Op → FuncType → Written → List Written → CallWords → CallPlaces → Type 0
-IsCallOf (op.Call t c a w p) func_ty callee args words places = (t ≡ func_ty) × (c ≡ callee) × (a ≡ args) × (w ≡ words) × (p ≡ places)
-IsCallOf (op.Invoke t c a w p normal unwind) func_ty callee args words places = (t ≡ func_ty) × (c ≡ callee) × (a ≡ args) × (w ≡ words) × (p ≡ places)
-IsCallOf _ func_ty callee args words places = ⊥
+abbrev pub is_call : Op → Bool
+is_call o = is_some (call_of o)
 
 abbrev pub are_alike : Option IrType → Option IrType → Bool
 are_alike (Some Void) (Some Void) = true
@@ -109,9 +110,7 @@ named m t _ = None
 
 -- a call is direct if its callee is a function name and its written type is that function's type; this is the function
 abbrev pub direct_callee : Module → Op → Option FuncId
-direct_callee m (op.Call func_ty callee args words places) = named m func_ty callee.val
-direct_callee m (op.Invoke func_ty callee args words places normal unwind) = named m func_ty callee.val
-direct_callee m _ = None
+direct_callee m o = option_and_then (λ call. named m call.func_ty call.callee.val) (call_of o)
 
 -- the function that a direct call names
 abbrev pub callee_of : Module → Op → Option Func
@@ -175,6 +174,70 @@ is_open_in taken (Some f) = not (f.block_count == 0) && (is_visible f.linkage ||
 unfoldable pub is_open : Module → ℕ → Bool
 is_open m f = is_open_in (is_taken m f) (slice_get m.funcs f)
 
+-- ---- lifetime markers (LangRef, "Memory Use Markers")
+
+-- the names of the markers of the begin and the end of a lifetime
+abbrev pub is_lifetime_name : List ℕ → Bool
+is_lifetime_name name = list_any (λ marker. bytes_eq marker name) (map (λ marker. marker.now) LIFETIME_NAMES)
+
+-- the function is the declaration of a lifetime marker
+abbrev pub is_lifetime : Func → Bool
+is_lifetime f = f.block_count == 0 && is_lifetime_name f.name
+
+abbrev pub no_attrs : ParamAttrs
+no_attrs = record {
+  nonnull = false;
+  nocapture = false;
+  captures = false;
+  readnone = false;
+  readonly = false;
+  writeonly = false;
+  returned = false;
+  sret = false;
+  writable = false;
+  align = 0;
+  dereferenceable = 0;
+  bad = false;
+}
+
+-- what a lifetime marker promises of its pointer
+abbrev pub lifetime_pointer : ParamAttrs
+lifetime_pointer = record {
+  nonnull = false;
+  nocapture = true;
+  captures = false;
+  readnone = true;
+  readonly = false;
+  writeonly = false;
+  returned = false;
+  sret = false;
+  writable = false;
+  align = 0;
+  dereferenceable = 0;
+  bad = false;
+}
+
+-- the pointer is the last parameter
+abbrev pub lifetime_params : List Param → List ParamAttrs
+lifetime_params [] = []
+lifetime_params (p ∷ []) = lifetime_pointer ∷ []
+lifetime_params (p ∷ q ∷ ps) = no_attrs ∷ lifetime_params (q ∷ ps)
+
+-- it touches no memory, and does nothing else that is seen
+abbrev pub lifetime_func : FuncAttrs
+lifetime_func = record {
+  nounwind = true;
+  noreturn = false;
+  nofree = true;
+  norecurse = false;
+  nocallback = true;
+  memory = Some (record { other = 0; argmem = 0; inaccessible = 0 });
+}
+
+-- What a lifetime marker promises, whatever is written at its declaration
+abbrev pub lifetime_attrs : Func → CallAttrs
+lifetime_attrs f = record { func = lifetime_func; ret = no_attrs; args = lifetime_params f.params }
+
 -- ---- what a call promises if it is outer
 
 -- what a call promises, each by the LangRef's word for it; those of arguments are by the argument's place, and
@@ -184,7 +247,7 @@ pub data Promise : Type 0 where
   Noreturn : Promise
   Nofree : Promise
   Nocallback : Promise
-  Memory : (word : MemWord) → Promise
+  Memory : (memory : MemoryAttr) → Promise
   Nocapture : (at : ℕ) → Promise
   Readnone : (at : ℕ) → Promise
   Readonly : (at : ℕ) → Promise
@@ -194,46 +257,49 @@ pub data Promise : Type 0 where
   Align : (bytes : ℕ) → Promise
   Dereferenceable : (bytes : ℕ) → Promise
 
-abbrev pub is_word : MemWord → MemWord → Bool
-is_word w v = w.other == v.other && w.argmem == v.argmem && w.inaccessible == v.inaccessible
+abbrev pub is_memory : MemoryAttr → MemoryAttr → Bool
+is_memory w v = w.other == v.other && w.argmem == v.argmem && w.inaccessible == v.inaccessible
 
--- some argument at this place has the word
-abbrev pub is_at : ℕ → (ParamWords → Bool) → CallWords → Bool
-is_at at has words = option_map_or has (slice_get words.args at) false
+-- the argument at this place has the attribute
+abbrev pub is_at : ℕ → (ParamAttrs → Bool) → CallAttrs → Bool
+is_at at has attrs = option_map_or has (slice_get attrs.args at) false
 
--- the word stands among these
-abbrev pub is_written : Promise → CallWords → Bool
-is_written Nounwind words = words.func.nounwind
-is_written Noreturn words = words.func.noreturn
-is_written Nofree words = words.func.nofree
-is_written Nocallback words = words.func.nocallback
-is_written (Memory word) words = option_map_or (is_word word) words.func.memory false
-is_written (Nocapture at) words = is_at at (λ w. w.nocapture) words
-is_written (Readnone at) words = is_at at (λ w. w.readnone) words
-is_written (Readonly at) words = is_at at (λ w. w.readonly) words
-is_written (Writeonly at) words = is_at at (λ w. w.writeonly) words
-is_written (Returned at) words = is_at at (λ w. w.returned) words
-is_written Nonnull words = words.ret.nonnull
-is_written (Align bytes) words = not (bytes == 0) && words.ret.align == bytes
-is_written (Dereferenceable bytes) words = not (bytes == 0) && words.ret.dereferenceable == bytes
+-- the attribute stands among these
+abbrev pub is_written : Promise → CallAttrs → Bool
+is_written Nounwind attrs = attrs.func.nounwind
+is_written Noreturn attrs = attrs.func.noreturn
+is_written Nofree attrs = attrs.func.nofree
+is_written Nocallback attrs = attrs.func.nocallback
+is_written (Memory memory) attrs = option_map_or (is_memory memory) attrs.func.memory false
+is_written (Nocapture at) attrs = is_at at (λ w. w.nocapture) attrs
+is_written (Readnone at) attrs = is_at at (λ w. w.readnone) attrs
+is_written (Readonly at) attrs = is_at at (λ w. w.readonly) attrs
+is_written (Writeonly at) attrs = is_at at (λ w. w.writeonly) attrs
+is_written (Returned at) attrs = is_at at (λ w. w.returned) attrs
+is_written Nonnull attrs = attrs.ret.nonnull
+is_written (Align bytes) attrs = not (bytes == 0) && attrs.ret.align == bytes
+is_written (Dereferenceable bytes) attrs = not (bytes == 0) && attrs.ret.dereferenceable == bytes
 
--- the words of a declaration, as a call has them
-abbrev pub words_of : Func → CallWords
-words_of f = record { func = f.words; ret = f.ret_words; args = map (λ p. p.words) f.params }
+-- the attributes of a declaration, as a call has them
+abbrev pub attrs_of : Func → CallAttrs
+attrs_of f = record { func = f.attrs; ret = f.ret_attrs; args = map (λ p. p.attrs) f.params }
 
-abbrev pub own_words : Op → List CallWords
-own_words (op.Call func_ty callee args words places) = words ∷ []
-own_words (op.Invoke func_ty callee args words places normal unwind) = words ∷ []
-own_words _ = []
+abbrev pub own_attrs : Op → List CallAttrs
+own_attrs o = option_map_or (λ call. call.attrs ∷ []) (call_of o) []
 
-abbrev pub promising_by : List CallWords → Option Func → List CallWords
+-- the attributes that promise something at a call of this function with these of its own
+abbrev pub promising_of : List CallAttrs → Func → List CallAttrs
+promising_of own f = if is_lifetime f then lifetime_attrs f ∷ [] else attrs_of f ∷ own
+
+abbrev pub promising_by : List CallAttrs → Option Func → List CallAttrs
 promising_by own None = []
-promising_by own (Some f) = if f.block_count == 0 then words_of f ∷ own else []
+promising_by own (Some f) = if f.block_count == 0 then promising_of own f else []
 
--- the words that promise something at a call: where its direct callee is declared, those of the declaration and its own
-abbrev pub promising : Module → Op → List CallWords
-promising m o = promising_by (own_words o) (callee_of m o)
+-- the attributes that promise something at a call: where its direct callee is declared, those of the declaration and its
+-- own; at a call of a lifetime marker those of the marker alone
+abbrev pub promising : Module → Op → List CallAttrs
+promising m o = promising_by (own_attrs o) (callee_of m o)
 
--- the word stands at the call or at the declaration of its direct callee
+-- the attribute stands at the call or at the declaration of its direct callee
 unfoldable pub is_promised : Module → Promise → Op → Bool
 is_promised m p o = list_any (is_written p) (promising m o)

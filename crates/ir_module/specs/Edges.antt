@@ -1,5 +1,5 @@
 -- The edges between blocks.
-use Rattle.std.specs.Prelude.{◌≡◌, ℕ, Bool, true, false, slice_get, List, [], ◌∷◌, map, Option, None, Some}
+use Rattle.std.specs.Prelude.{◌≡◌, ℕ, Bool, false, slice_get, List, [], ◌∷◌, map, Option, None, Some}
 use Rattle.std.specs.List.{list_any}
 use Rattle.attr_ids.specs.declared.ids.BlockId.{BlockId}
 use Rattle.ir_module.specs.declared.op.Case.{Case}
@@ -11,7 +11,8 @@ use Rattle.ir_module.specs.declared.edge.Way.TheVariants as way
 use Rattle.ir_module.specs.declared.edge.Edge.{Edge}
 use Rattle.ir_module.specs.declared.module.Seg.{Seg}
 use Rattle.ir_module.specs.declared.module.Module.{Module}
-use Rattle.ir_module.specs.Places.{Spot, instr_at, first_seg_of}
+use Rattle.ir_module.specs.declared.module.Spot.{Spot}
+use Rattle.ir_module.specs.Places.{instr_at, first_seg_of}
 
 abbrev pub edge : Way → BlockId → Edge
 edge way to = record { way = way; to = to }
@@ -21,7 +22,7 @@ case_edge c = edge (way.Case c.val) c.to
 
 -- the edges of a terminator, in the order in which their labels are written
 abbrev pub edges : Op → List Edge
-edges (op.Invoke func_ty callee args words places normal unwind) = edge way.Normal normal ∷ edge way.Unwind unwind ∷ []
+edges (op.Invoke call normal unwind) = edge way.Normal normal ∷ edge way.Unwind unwind ∷ []
 edges (op.Jump to) = edge way.Jump to ∷ []
 edges (op.Branch c so otherwise) = edge way.Yes so ∷ edge way.No otherwise ∷ []
 edges (op.Switch on other cases) = edge way.Other other ∷ map case_edge cases

@@ -3,4 +3,4 @@ pub mod Edges
 pub mod Operands
 pub mod Calls
 pub mod Formed
-pub mod Each
+pub mod WellFormed

@@ -80,16 +80,7 @@ pub fn direct_callee(m: &Module, op: &Op) -> Option<FuncId>
     ensures { result ≡ spec.direct_callee m.now op.now }
 {
     match op {
-        Op::Call {
-            func_ty,
-            callee,
-            ..
-        }
-        | Op::Invoke {
-            func_ty,
-            callee,
-            ..
-        } => named(m, func_ty, callee.val),
+        Op::Call(call) | Op::Invoke { call, .. } => named(m, &call.func_ty, call.callee.val),
         _ => None,
     }
 }

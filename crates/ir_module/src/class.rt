@@ -1,9 +1,7 @@
-ghost use Rattle.std.specs.Prelude.{◌≡◌, ◌<◌, length, IfSome, IfNone, false};
+ghost use Rattle.std.specs.Prelude.{◌≡◌, ◌<◌, length};
 ghost use Rattle.ir_module.specs.Calls as spec;
 
 use crate::module::{Linkage, Module};
-use crate::op::{FuncType, Instr, Op, Operands, Written};
-use crate::words::{CallPlaces, CallWords};
 use attr_ids::FuncId;
 
 /// What a call of a function runs: code of the outside, code that may be put in the place of the
@@ -49,53 +47,12 @@ pub fn class_of(m: &Module, f: FuncId) -> Class
     requires { f.0 < length m.now.funcs }
     ensures { result ≡ spec.class_of m.now f.0 }
 {
-    let func = &m.funcs.as_slice()[f.0 as usize];
+    let func = m.func(f);
     if func.block_count == 0 {
         Class::Declared
     } else if func.linkage.is_replaceable() {
         Class::Replaceable
     } else {
         Class::Exact
-    }
-}
-
-/// A call as it is read: the fields that a `call` and an `invoke` have.
-#[derive(Clone, Copy, Debug)]
-pub struct CallView<'a> {
-    pub func_ty: &'a FuncType,
-    pub callee: &'a Written,
-    pub args: &'a Operands,
-    pub words: &'a CallWords,
-    pub places: &'a CallPlaces,
-}
-
-/// The call that an instruction is, where it is a `call` or an `invoke`.
-pub fn call_of<'a>(i: &'a Instr) -> Option<CallView<'a>>
-    ensures some { IfSome result (λ call. spec.IsCallOf i.now.op call.func_ty.now call.callee.now call.args.now call.words.now call.places.now) }
-    ensures none { IfNone result (spec.is_call i.now.op ≡ false) }
-{
-    match &i.op {
-        Op::Call {
-            func_ty,
-            callee,
-            args,
-            words,
-            places,
-        }
-        | Op::Invoke {
-            func_ty,
-            callee,
-            args,
-            words,
-            places,
-            ..
-        } => Some(CallView {
-            func_ty,
-            callee,
-            args,
-            words,
-            places,
-        }),
-        _ => None,
     }
 }

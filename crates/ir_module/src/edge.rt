@@ -5,7 +5,7 @@ use crate::op::{Cases, Op, Written};
 use attr_ids::BlockId;
 
 /// Which of its terminator's edges an edge is.
-#[derive(Clone, Copy, Debug, PartialEq, Eq)]
+#[derive(Clone, Copy, PartialEq, Eq)]
 pub enum Way {
     /// The one edge of a `br` to a label.
     Jump,
@@ -22,7 +22,7 @@ pub enum Way {
 }
 
 /// An edge from a terminator to a block.
-#[derive(Clone, Copy, Debug, PartialEq, Eq)]
+#[derive(Clone, Copy, PartialEq, Eq)]
 pub struct Edge {
     pub way: Way,
     pub to: BlockId,

@@ -7,12 +7,12 @@ ghost use Rattle.ir_module.specs.declared.edge.Edge.{Edge};
 ghost use Rattle.ir_module.specs.Edges.{edges};
 ghost use Rattle.ir_module.specs.Operands.{operands};
 ghost use Rattle.ir_module.specs.Formed as spec;
-ghost use Rattle.ir_module.specs.Each.{Each, IsInstrFormed};
+ghost use Rattle.ir_module.specs.Places.{spot};
+ghost use Rattle.ir_module.specs.WellFormed.{Each, HasResult, IsInstrFormed};
 
 use crate::module::{Block, Def, Module};
-use crate::op::{Arm, FuncType, Instr, Op, Operands};
+use crate::op::{Arm, Call, FuncType, Instr, Op};
 use crate::present::{are_types, is_block_in, is_operand, is_type};
-use crate::words::{CallPlaces, CallWords};
 use attr_ids::TypeId;
 
 /// Whether segment number `k` is followed by another one of its block.
@@ -38,7 +38,7 @@ fn is_placed(block: &Block, k: usize, count: usize, i: usize, op: &Op) -> bool
 {
     let at_end = count - i == 1;
     match op {
-        Op::Call { .. } => at_end && has_next(block, k),
+        Op::Call(_) => at_end && has_next(block, k),
         Op::Invoke { .. }
         | Op::Resume { .. }
         | Op::Ret { .. }
@@ -105,7 +105,7 @@ fn has_types(m: &Module, op: &Op) -> bool
 {
     match op {
         Op::Alloca { ty: only, .. } | Op::Gep { elem: only, .. } => is_only_type(m, *only),
-        Op::Call { func_ty, .. } | Op::Invoke { func_ty, .. } => is_func_type(m, func_ty),
+        Op::Call(call) | Op::Invoke { call, .. } => is_func_type(m, &call.func_ty),
         _ => true,
     }
 }
@@ -122,29 +122,19 @@ fn is_func_type(m: &Module, t: &FuncType) -> bool
     is_type(m, t.ret) && are_types(m, t.params.as_slice())
 }
 
-fn fit_args(args: &Operands, words: &CallWords, places: &CallPlaces) -> bool
-    ensures { IsTrue result ↔ ((length words.now.args ≡ length args.now) × (length places.now.args ≡ length args.now)) }
+/// Whether each argument of a call has its attributes and its place.
+fn fit_args(call: &Call) -> bool
+    ensures { IsTrue result ↔ spec.HasArgsIn (Some call.now) }
 {
-    words.args.len() == args.len() && places.args.len() == args.len()
+    let count = call.args.len();
+    call.attrs.args.len() == count && call.places.args.len() == count
 }
 
-/// Whether each argument of a call has its words and its place.
 fn has_args(op: &Op) -> bool
     ensures { IsTrue result ↔ spec.HasArgs op.now }
 {
     match op {
-        Op::Call {
-            args,
-            words,
-            places,
-            ..
-        }
-        | Op::Invoke {
-            args,
-            words,
-            places,
-            ..
-        } => fit_args(args, words, places),
+        Op::Call(call) | Op::Invoke { call, .. } => fit_args(call),
         _ => true,
     }
 }
@@ -163,17 +153,17 @@ fn is_instr_in(m: &Module, f: u32, instr: &Instr) -> bool
 
 /// Whether a value is made by instruction `i` of segment number `k`.
 fn is_made_at(def: Def, k: usize, i: usize) -> bool
-    ensures { IsTrue result ↔ (def ≡ Def.Instr (record { 0 = k }) i) }
+    ensures { IsTrue result ↔ (def ≡ Def.Instr (spot k i)) }
 {
     match def {
-        Def::Instr { seg, index } => seg.0 as usize == k && index as usize == i,
+        Def::Instr(s) => s.seg.0 as usize == k && s.at as usize == i,
         Def::Param(_) => false,
     }
 }
 
 /// Whether the result of instruction `i` of segment number `k` names it back.
 fn has_result(m: &Module, k: usize, i: usize, instr: &Instr) -> bool
-    ensures { IsTrue result ↔ spec.HasResult m.now k i instr.now }
+    ensures { IsTrue result ↔ HasResult m.now k i instr.now }
 {
     let Some(v) = instr.result else {
         return true;

@@ -4,37 +4,40 @@
 //! definitions of `specs`: what a well formed module is, a spot of it, an edge, an operand, a call, an open body.
 #![tactic(auto)]
 
+mod attrs;
 mod callee;
 mod class;
 mod edge;
 mod few;
 mod formed;
+mod formed_body;
+mod formed_data;
 mod formed_instr;
-mod formed_table;
+mod lifetime;
 mod module;
 mod op;
 mod operands;
 mod places;
 mod present;
-#[cfg(test)]
-mod tests;
-mod words;
+mod short_list;
 
+pub use attrs::{
+    CallAttrs, CallPlaces, FuncAttrs, FuncPlaces, MemoryAttr, ParamAttrs, ParamAttrsList,
+};
 pub use callee::direct_callee;
-pub use class::{CallView, Class, call_of, class_of};
+pub use class::{Class, class_of};
 pub use edge::{Edge, Way};
 pub use few::has_few;
 pub use formed::is_well_formed;
+pub use lifetime::{LIFETIME_NAMES, is_lifetime};
 pub use module::{
     Block, Blocks, Def, Func, Funcs, GlobalVar, Globals, Linkage, Module, Param, Params, Seg, Segs,
-    ValueInfo, Values,
+    Spot, ValueInfo, Values,
 };
 pub use op::{
-    Arm, Arms, Case, Cases, Clause, Clauses, FuncType, Instr, Instrs, Op, Operand, Operands, Shape,
-    Symbol, Written,
+    Arm, Arms, Call, Case, Cases, Clause, Clauses, FuncType, Instr, Instrs, Op, Operand, Operands,
+    Shape, Symbol, Written,
 };
 pub use operands::literal;
 pub use places::{block_of, first_seg, func_of, instr_at, segs_of_block, segs_of_func};
-pub use words::{
-    CallPlaces, CallWords, FuncPlaces, FuncWords, MemWord, ParamWords, ParamWordsList,
-};
+pub use short_list::ShortList;

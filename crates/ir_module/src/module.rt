@@ -1,10 +1,10 @@
+use crate::attrs::{FuncAttrs, FuncPlaces, ParamAttrs};
 use crate::op::{Instrs, Operands, Written};
-use crate::words::{FuncPlaces, FuncWords, ParamWords};
-use attr_ids::{BlockId, FuncId, Offsets, SegId, Sequence, Text, TypeId, ValueId};
+use attr_ids::{BlockId, FuncId, Offsets, SegId, Sequence, Span, Text, TypeId, ValueId};
 use ir_types::TypeTable;
 
 /// How a function or a global is seen from outside of its module (LangRef, "Linkage Types").
-#[derive(Clone, Copy, Debug, PartialEq, Eq)]
+#[derive(Clone, Copy, PartialEq, Eq)]
 pub enum Linkage {
     /// No linkage is written.
     Plain,
@@ -22,7 +22,7 @@ pub enum Linkage {
 }
 
 /// A global variable (LangRef, "Global Variables").
-#[derive(Debug, Drop)]
+#[derive(Drop)]
 pub struct GlobalVar {
     pub name: Text,
     pub linkage: Linkage,
@@ -34,30 +34,32 @@ pub struct GlobalVar {
     pub at: u32,
 }
 
-/// A parameter of a function: `place` is the offset of the words that are added to it.
-#[derive(Clone, Copy, Debug, PartialEq, Eq)]
+/// A parameter of a function: `place` is the offset of the attributes that are added to it.
+#[derive(Clone, Copy, PartialEq, Eq)]
 pub struct Param {
     pub value: ValueId,
     pub ty: TypeId,
-    pub words: ParamWords,
+    pub attrs: ParamAttrs,
     pub place: u32,
 }
 
 /// A function (LangRef, "Functions"). A declaration has no blocks; a body's entry is its first block.
-#[derive(Debug, Drop)]
+#[derive(Drop)]
 pub struct Func {
     pub name: Text,
     pub linkage: Linkage,
     pub ret: TypeId,
-    pub ret_words: ParamWords,
+    pub ret_attrs: ParamAttrs,
     pub params: Params,
     pub variadic: bool,
-    pub words: FuncWords,
+    pub attrs: FuncAttrs,
     pub places: FuncPlaces,
     /// Whether the header writes a `personality`.
     pub personality: bool,
     /// The constants after `prefix`, `prologue` and `personality`.
     pub extra: Operands,
+    /// The span of its name's token in the header.
+    pub token: Span,
     /// The offset of the entity's first token.
     pub at: u32,
     pub first_block: u32,
@@ -65,7 +67,7 @@ pub struct Func {
 }
 
 /// A block, with its segments in order from `first_seg` on.
-#[derive(Debug, Drop)]
+#[derive(Drop)]
 pub struct Block {
     pub func: FuncId,
     pub name: Text,
@@ -74,21 +76,28 @@ pub struct Block {
 }
 
 /// A run of instructions of one block that ends in a call or in the block's terminator.
-#[derive(Debug, Drop)]
+#[derive(Drop)]
 pub struct Seg {
     pub block: BlockId,
     pub instrs: Instrs,
 }
 
-/// Where a value is made: the parameter of this number of its function, or an instruction of a segment.
-#[derive(Clone, Copy, Debug, PartialEq, Eq)]
+/// A place of an instruction: number `at` of the segment `seg`, from 0; segments are counted through the whole module.
+#[derive(Clone, Copy, PartialEq, Eq)]
+pub struct Spot {
+    pub seg: SegId,
+    pub at: u32,
+}
+
+/// Where a value is made: the parameter of this number of its function, or the instruction at a spot.
+#[derive(Clone, Copy, PartialEq, Eq)]
 pub enum Def {
     Param(u32),
-    Instr { seg: SegId, index: u32 },
+    Instr(Spot),
 }
 
 /// A parameter or a result.
-#[derive(Clone, Copy, Debug, PartialEq, Eq)]
+#[derive(Clone, Copy, PartialEq, Eq)]
 pub struct ValueInfo {
     pub func: FuncId,
     pub ty: TypeId,
@@ -108,7 +117,7 @@ pub type Segs = Sequence<Seg>;
 pub type Values = Sequence<ValueInfo>;
 
 /// A module. A thing's number is its place in its table.
-#[derive(Debug, Drop)]
+#[derive(Drop)]
 pub struct Module {
     pub types: TypeTable,
     pub globals: Globals,

@@ -1,17 +1,18 @@
-use crate::words::{CallPlaces, CallWords};
+use crate::attrs::{CallAttrs, CallPlaces};
+use crate::short_list::ShortList;
 use attr_ids::{BlockId, FuncId, GlobalId, Sequence, Span, TypeId, ValueId};
 use ir_ops::{BinOp, CastOp, Pred};
 use ir_types::TypeList;
 
 /// The base of a constant address.
-#[derive(Clone, Copy, Debug, PartialEq, Eq)]
+#[derive(Clone, Copy, PartialEq, Eq)]
 pub enum Symbol {
     Global(GlobalId),
     Func(FuncId),
 }
 
 /// The form of an aggregate constant.
-#[derive(Clone, Copy, Debug, PartialEq, Eq)]
+#[derive(Clone, Copy, PartialEq, Eq)]
 pub enum Shape {
     Array,
     Struct,
@@ -21,7 +22,7 @@ pub enum Shape {
 }
 
 /// A value as it is named where it is used.
-#[derive(Clone, Copy, Debug, PartialEq, Eq)]
+#[derive(Clone, Copy, PartialEq, Eq)]
 pub enum Operand {
     Value(ValueId),
     /// An integer literal; where it `fits` its width, `bits` is its value modulo 2^width.
@@ -63,15 +64,26 @@ pub enum Operand {
 }
 
 /// An operand with the type that is written for it, and the offset of the first token of its value.
-#[derive(Clone, Copy, Debug, PartialEq, Eq)]
+#[derive(Clone, Copy, PartialEq, Eq)]
 pub struct Written {
     pub val: Operand,
     pub ty: TypeId,
     pub at: u32,
 }
 
+/// What an unused place of a list holds.
+impl Default for Written {
+    fn default() -> Written {
+        Written {
+            val: Operand::Poison,
+            ty: TypeId(0),
+            at: 0,
+        }
+    }
+}
+
 /// The function type that a call writes.
-#[derive(Debug, Drop)]
+#[derive(Drop)]
 pub struct FuncType {
     pub ret: TypeId,
     pub params: TypeList,
@@ -79,36 +91,66 @@ pub struct FuncType {
 }
 
 /// A value of a phi, and the block that it comes from.
-#[derive(Clone, Copy, Debug, PartialEq, Eq)]
+#[derive(Clone, Copy, PartialEq, Eq)]
 pub struct Arm {
     pub val: Written,
     pub from: BlockId,
 }
 
+/// What an unused place of a list holds.
+impl Default for Arm {
+    fn default() -> Arm {
+        Arm {
+            val: Written::default(),
+            from: BlockId(0),
+        }
+    }
+}
+
 /// A case of a switch.
-#[derive(Clone, Copy, Debug, PartialEq, Eq)]
+#[derive(Clone, Copy, PartialEq, Eq)]
 pub struct Case {
     pub val: Written,
     pub to: BlockId,
 }
 
+/// What an unused place of a list holds.
+impl Default for Case {
+    fn default() -> Case {
+        Case {
+            val: Written::default(),
+            to: BlockId(0),
+        }
+    }
+}
+
 /// A clause of a landing pad: a `filter`, or a `catch`.
-#[derive(Clone, Copy, Debug, PartialEq, Eq)]
+#[derive(Clone, Copy, PartialEq, Eq)]
 pub struct Clause {
     pub filter: bool,
     pub val: Written,
 }
 
-pub type Operands = Sequence<Written>;
+pub type Operands = ShortList<Written>;
 
-pub type Arms = Sequence<Arm>;
+pub type Arms = ShortList<Arm>;
 
-pub type Cases = Sequence<Case>;
+pub type Cases = ShortList<Case>;
 
 pub type Clauses = Sequence<Clause>;
 
+/// A call as it is written, of a `call` and of an `invoke` alike (LangRef, "'call' Instruction").
+#[derive(Drop)]
+pub struct Call {
+    pub func_ty: FuncType,
+    pub callee: Written,
+    pub args: Operands,
+    pub attrs: CallAttrs,
+    pub places: CallPlaces,
+}
+
 /// What an instruction does (LangRef, "Instruction Reference"). A `flagged` one may give poison.
-#[derive(Debug, Drop)]
+#[derive(Drop)]
 pub enum Op {
     Bin {
         op: BinOp,
@@ -161,19 +203,9 @@ pub enum Op {
         inbounds: bool,
         wrap: bool,
     },
-    Call {
-        func_ty: FuncType,
-        callee: Written,
-        args: Operands,
-        words: CallWords,
-        places: CallPlaces,
-    },
+    Call(Call),
     Invoke {
-        func_ty: FuncType,
-        callee: Written,
-        args: Operands,
-        words: CallWords,
-        places: CallPlaces,
+        call: Call,
         normal: BlockId,
         unwind: BlockId,
     },
@@ -205,7 +237,7 @@ pub enum Op {
 }
 
 /// An instruction, its result where it has one, and where it is written.
-#[derive(Debug, Drop)]
+#[derive(Drop)]
 pub struct Instr {
     pub result: Option<ValueId>,
     /// Whether a result name is written.

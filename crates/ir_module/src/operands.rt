@@ -1,10 +1,11 @@
 ghost use Rattle.std.specs.Prelude.{◌≡◌, ◌<◌, ◌^◌, [], ◌∷◌, length, map, slice_get};
 ghost use Rattle.std.specs.Option.{option_copied};
 ghost use Rattle.ir_module.specs.Operands as spec;
+ghost use Rattle.ir_module.specs.Calls.{call_of};
 
 use crate::callee::type_at;
 use crate::module::Module;
-use crate::op::{Arms, Cases, Clauses, Op, Operand, Operands, Written};
+use crate::op::{Arms, Call, Cases, Clauses, Op, Operand, Operands, Written};
 use ir_types::IrType;
 
 /// The operand number `i` of an instruction that has this one.
@@ -96,6 +97,16 @@ fn of_clauses<'a>(clauses: &'a Clauses, i: usize) -> Option<&'a Written>
 }
 
 impl Op {
+    /// The call that the instruction is, where it is a `call` or an `invoke`.
+    pub fn call(&self) -> Option<&Call>
+        ensures { option_copied result ≡ call_of self.now }
+    {
+        match self {
+            Op::Call(call) | Op::Invoke { call, .. } => Some(call),
+            _ => None,
+        }
+    }
+
     /// How many operands the instruction has; labels are none.
     pub fn operand_count(&self) -> usize
         ensures { result ≡ length (spec.operands self.now) }
@@ -111,9 +122,8 @@ impl Op {
             Op::Alloca { count: val, .. } | Op::Ret { val } => val.is_some() as usize,
             Op::Phi { arms } => arms.len(),
             Op::LandingPad { clauses, .. } => clauses.len(),
-            Op::Gep { indices: rest, .. }
-            | Op::Call { args: rest, .. }
-            | Op::Invoke { args: rest, .. } => 1 + rest.as_slice().len(),
+            Op::Gep { indices, .. } => 1 + indices.as_slice().len(),
+            Op::Call(call) | Op::Invoke { call, .. } => 1 + call.args.as_slice().len(),
             Op::Switch { cases, .. } => 1 + cases.as_slice().len(),
             Op::Jump { .. } | Op::Unreachable => 0,
         }
@@ -135,21 +145,8 @@ impl Op {
             Op::Alloca { count: val, .. } | Op::Ret { val } => of_optional(val, i),
             Op::Phi { arms } => of_phi(arms, i),
             Op::LandingPad { clauses, .. } => of_clauses(clauses, i),
-            Op::Gep {
-                base: first,
-                indices: rest,
-                ..
-            }
-            | Op::Call {
-                callee: first,
-                args: rest,
-                ..
-            }
-            | Op::Invoke {
-                callee: first,
-                args: rest,
-                ..
-            } => of_headed(first, rest, i),
+            Op::Gep { base, indices, .. } => of_headed(base, indices, i),
+            Op::Call(call) | Op::Invoke { call, .. } => of_headed(&call.callee, &call.args, i),
             Op::Switch { on, cases, .. } => of_switch(on, cases, i),
             Op::Jump { .. } | Op::Unreachable => None,
         }

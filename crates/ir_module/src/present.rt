@@ -1,7 +1,7 @@
 //! Whether what a module's parts name is there.
 ghost use Rattle.std.specs.Prelude.{◌≡◌, ◌+◌, ◌<◌, ◌≤◌, ◌↔◌, ◌^◌, ℕ, length, slice_get, Some, IsTrue};
 ghost use Rattle.ir_module.specs.Formed as spec;
-ghost use Rattle.ir_module.specs.Each.{Each};
+ghost use Rattle.ir_module.specs.WellFormed.{Each};
 
 use crate::module::Module;
 use crate::op::{Operand, Shape, Symbol, Written};

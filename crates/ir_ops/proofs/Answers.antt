@@ -5,7 +5,8 @@ use Rattle.ir_ops.specs.BinOp.{outcome, exact, is_undefined, is_poison}
 use Rattle.ir_ops.specs.declared.binary.BinOp.{BinOp}
 use Rattle.ir_ops.specs.declared.binary.OpOut.TheVariants as out
 
-pub gives : (w : ℕ) (op : BinOp) (a b r : ℕ) → is_undefined w op a b ≡ false → is_poison w op b ≡ false → r ≡ residue w (exact w op a b) → out.Value r ≡ outcome w op a b
+pub gives : (w : ℕ) (op : BinOp) (a b r : ℕ) → is_undefined w op a b ≡ false → is_poison w op b ≡ false → r ≡ residue w (exact w op a b)
+    → out.Value r ≡ outcome w op a b
 unfolding outcome
 gives w op a b r u p e = rw (u, p) (ap out.Value e)
 

@@ -40,7 +40,8 @@ below_zero (suc n) p = ap negsuc (omega arith)
 not_both : (w a b : ℕ) → is_least_over_minus_one w a b ≡ false → signed w a ≡ negsuc (2 ^ (w - 1) - 1) → signed w b ≡ negsuc 0 → ⊥
 not_both w a b unlike low one =
     let bottom : least w ≡ negsuc (2 ^ (w - 1) - 1) = below_zero (2 ^ (w - 1)) (pow_pos (w - 1)) in
-    let tests = Decides-and (int_eq (signed w a) (least w)) (int_eq (signed w b) (negsuc 0)) (Decides-int_eq (signed w a) (least w)) (Decides-int_eq (signed w b) (negsuc 0)) in
+    let tests = Decides-and (int_eq (signed w a) (least w)) (int_eq (signed w b) (negsuc 0)) (Decides-int_eq (signed w a) (least w))
+    (Decides-int_eq (signed w b) (negsuc 0)) in
     true≢false (sym (tests.1 (low ∙ sym bottom, one)) ∙ unlike)
 
 -- neither of two tests holds
@@ -69,12 +70,15 @@ divides w a b is h k defined =
     }
 
 -- what the machine asks of a division
-pub may_divide : (w : ℕ) (x y : ℤ) → Divides w x y → (0 < cast_unsigned w64 y) × FitsSigned w64 (int_div (cast_signed w64 (cast_unsigned w64 x)) (cast_signed w64 (cast_unsigned w64 y)))
+pub may_divide : (w : ℕ) (x y : ℤ) → Divides w x y → (0 < cast_unsigned w64 y) × FitsSigned w64
+    (int_div (cast_signed w64 (cast_unsigned w64 x)) (cast_signed w64 (cast_unsigned w64 y)))
 may_divide w x y d = (has_bits y d.right d.divisor, rw (to_z-of_z w64 x d.left, to_z-of_z w64 y d.right) d.quotient)
 
 -- what it answers
-pub quotient_is : (w : ℕ) (x y : ℤ) → Divides w x y → cast_signed w64 (cast_unsigned w64 (int_div (cast_signed w64 (cast_unsigned w64 x)) (cast_signed w64 (cast_unsigned w64 y)))) ≡ int_div x y
+pub quotient_is : (w : ℕ) (x y : ℤ) → Divides w x y → cast_signed w64
+    (cast_unsigned w64 (int_div (cast_signed w64 (cast_unsigned w64 x)) (cast_signed w64 (cast_unsigned w64 y)))) ≡ int_div x y
 quotient_is w x y d = quot_is w64 x y d.left d.right d.quotient
 
-pub remainder_is : (w : ℕ) (x y : ℤ) → Divides w x y → cast_signed w64 (cast_unsigned w64 (int_rem (cast_signed w64 (cast_unsigned w64 x)) (cast_signed w64 (cast_unsigned w64 y)))) ≡ int_rem x y
+pub remainder_is : (w : ℕ) (x y : ℤ) → Divides w x y → cast_signed w64
+    (cast_unsigned w64 (int_rem (cast_signed w64 (cast_unsigned w64 x)) (cast_signed w64 (cast_unsigned w64 y)))) ≡ int_rem x y
 remainder_is w x y d = rem_is w64 x y d.left d.right

@@ -1,5 +1,6 @@
 -- The law over the table: each operation, comparison and conversion is its mathematics.
-use Rattle.std.proofs.Common.{ℕ, zero, suc, ◌+◌, ◌-◌, ◌*◌, ◌/◌, ◌%◌, ◌^◌, ◌<◌, ◌≤◌, ◌≡◌, refl, sym, ap, subst, ◌∙◌, inl, inr, arith, Bool, true, false, ◌||◌, eqb, bit_and, bit_or, bit_xor}
+use Rattle.std.proofs.Common.{ℕ, zero, suc, ◌+◌, ◌-◌, ◌*◌, ◌/◌, ◌%◌, ◌^◌, ◌<◌, ◌≤◌, ◌≡◌, refl, sym, ap, subst, ◌∙◌, inl, inr, arith, Bool, true, false}
+use Rattle.std.proofs.Common.{◌||◌, eqb, bit_and, bit_or, bit_xor}
 use Rattle.std.specs.Prelude.{ℤ, pos, negsuc, ◌+ℤ◌, ◌-ℤ◌, ◌*ℤ◌, ◌≤ℤ◌, ◌<ℤ◌, ◌⊎◌, ◌↔◌, IsTrue, int_div, int_rem, int_lt, int_le}
 use Rattle.std.specs.Int.{bit_at, int_div_euclid}
 use Rattle.std.specs.Ordering.{int_eq}
@@ -20,7 +21,7 @@ use Rattle.ir_ops.specs.declared.binary.OpOut.TheVariants.{Value, Poison, Undefi
 use Rattle.ir_ops.specs.declared.predicate.Pred.{Pred}
 use Rattle.ir_ops.specs.declared.predicate.Pred.TheVariants.{Eq, Ne, Ugt, Uge, Ult, Ule, Sgt, Sge, Slt, Sle}
 use Rattle.ir_ops.specs.declared.conversion.CastOp.{CastOp}
-use Rattle.ir_ops.specs.declared.conversion.CastOp.TheVariants.{Trunc, ZExt, SExt}
+use Rattle.ir_ops.specs.declared.conversion.CastOp.TheVariants.{Trunc, ZExt, SExt, PtrToInt}
 use Rattle.ir_ops.proofs.Answers.{gives, gives_poison, gives_undefined}
 use Rattle.ir_ops.proofs.Arithmetic.{small}
 use Rattle.ir_ops.proofs.Congruence.{residue_below, residue_congruent, signed_residue, floor_is, floor_small}
@@ -28,10 +29,12 @@ use Rattle.ir_ops.proofs.Division.{divides}
 use Rattle.ir_ops.proofs.Signed.{size}
 use Rattle.ir_ops.proofs.Truncation.{truncated, rest_small}
 
-value : (w : ℕ) (op : BinOp) (a b : ℕ) → is_undefined w op a b ≡ false → is_poison w op b ≡ false → IsAnswer w op a b (Value (residue w (exact w op a b))) → IsAnswer w op a b (outcome w op a b)
+value : (w : ℕ) (op : BinOp) (a b : ℕ) → is_undefined w op a b ≡ false → is_poison w op b ≡ false → IsAnswer w op a b (Value (residue w (exact w op a b)))
+    → IsAnswer w op a b (outcome w op a b)
 value w op a b u p h = subst (IsAnswer w op a b) (gives w op a b (residue w (exact w op a b)) u p refl) h
 
-poison : (w : ℕ) (op : BinOp) (a b : ℕ) → is_undefined w op a b ≡ false → is_poison w op b ≡ true → IsAnswer w op a b Poison → IsAnswer w op a b (outcome w op a b)
+poison : (w : ℕ) (op : BinOp) (a b : ℕ) → is_undefined w op a b ≡ false → is_poison w op b ≡ true → IsAnswer w op a b Poison
+    → IsAnswer w op a b (outcome w op a b)
 poison w op a b u p h = subst (IsAnswer w op a b) (gives_poison w op a b u p) h
 
 undefined : (w : ℕ) (op : BinOp) (a b : ℕ) → is_undefined w op a b ≡ true → IsAnswer w op a b Undefined → IsAnswer w op a b (outcome w op a b)
@@ -53,11 +56,19 @@ ands w a b h =
 
 ors : (w a b : ℕ) → a < 2 ^ w → b < 2 ^ w → IsAnswer w Or a b (outcome w Or a b)
 ors w a b h k =
-    value w Or a b refl refl (residue_below w (pos (bit_or a b)), λ i. ap (λ (x : ℕ). bit_at x i) (sym (small (bit_or a b) w (or_lt w a b h k))) ∙ bit_at_or a b i)
+    value w Or a b refl refl (
+      residue_below w (pos (bit_or a b)),
+      λ i. ap (λ (x : ℕ). bit_at x i)
+          (sym (small (bit_or a b) w (or_lt w a b h k))) ∙ bit_at_or a b i,
+    )
 
 xors : (w a b : ℕ) → a < 2 ^ w → b < 2 ^ w → IsAnswer w Xor a b (outcome w Xor a b)
 xors w a b h k =
-    value w Xor a b refl refl (residue_below w (pos (bit_xor a b)), λ i. ap (λ (x : ℕ). bit_at x i) (sym (small (bit_xor a b) w (xor_lt w a b h k))) ∙ bit_at_xor a b i)
+    value w Xor a b refl refl (
+      residue_below w (pos (bit_xor a b)),
+      λ i. ap (λ (x : ℕ). bit_at x i)
+          (sym (small (bit_xor a b) w (xor_lt w a b h k))) ∙ bit_at_xor a b i,
+    )
 
 left_shifts : (w a b : ℕ) → IsAnswer w Shl a b (outcome w Shl a b)
 left_shifts w a b =
@@ -104,7 +115,8 @@ remainders w a (suc b) h =
 -- the test for a signed division without a quotient
 no_quotient : (w a b : ℕ) → ((eqb b 0) || is_least_over_minus_one w a b) ≡ true → (b ≡ 0) ⊎ IsLeastOverMinusOne w a b
 no_quotient w a b t =
-    let extreme = Decides-and (int_eq (signed w a) (least w)) (int_eq (signed w b) (negsuc 0)) (Decides-int_eq (signed w a) (least w)) (Decides-int_eq (signed w b) (negsuc 0)) in
+    let extreme = Decides-and (int_eq (signed w a) (least w)) (int_eq (signed w b) (negsuc 0)) (Decides-int_eq (signed w a) (least w))
+    (Decides-int_eq (signed w b) (negsuc 0)) in
     (Decides-or (eqb b 0) (is_least_over_minus_one w a b) (Decides-eqb b 0) extreme).0 t
 
 signed_quotients : (w a b : ℕ) → IsWidth w → a < 2 ^ w → b < 2 ^ w → (t : Bool) → is_undefined w SDiv a b ≡ t → IsAnswer w SDiv a b (outcome w SDiv a b)
@@ -171,7 +183,8 @@ comparisons w Sge a b = most_signed (signed w b) (signed w a)
 comparisons w Slt a b = less_signed (signed w a) (signed w b)
 comparisons w Sle a b = most_signed (signed w a) (signed w b)
 
-conversions : (w v : ℕ) (op : CastOp) (a : ℕ) → IsWidth w → IsWidth v → a < 2 ^ w → CanCast op w v → (converted w v op a < 2 ^ v) × Converts w v op a (converted w v op a)
+conversions : (w v : ℕ) (op : CastOp) (a : ℕ) → IsWidth w → IsWidth v → a < 2 ^ w → CanCast op w v
+    → (converted w v op a < 2 ^ v) × Converts w v op a (converted w v op a)
 unfolding converted
 conversions w v Trunc a is to h narrower = (residue_below v (pos a), residue_congruent v (pos a))
 conversions w v ZExt a is to h wider =
@@ -180,6 +193,7 @@ conversions w v ZExt a is to h wider =
 conversions w v SExt a is to h wider =
     let more : 2 ^ (w - 1) ≤ 2 ^ (v - 1) = pow-le-pow_right {n = 2} (omega arith) {i = w - 1} {j = v - 1} (omega arith) in
     (residue_below v (signed w a), signed_residue v (signed w a) to.0 (omega (arith, size w a is.0 h)))
+conversions w v PtrToInt a is to h none = absurd none
 
 pub table_law : IsIntegerMathematics
 table_law = record { operations = operations; comparisons = comparisons; conversions = conversions }

@@ -23,7 +23,8 @@ floor (pos a) m = refl
 floor (negsuc a) m = refl
 
 -- the machine's shift to the right rounds down
-pub shifted : (x : ℤ) (b : ℕ) → FitsSigned w64 x → cast_signed w64 (cast_unsigned w64 (shr_z (cast_signed w64 (cast_unsigned w64 x)) (2 ^ b))) ≡ int_div_euclid x (pos (2 ^ b))
+pub shifted : (x : ℤ) (b : ℕ) → FitsSigned w64 x → cast_signed w64
+    (cast_unsigned w64 (shr_z (cast_signed w64 (cast_unsigned w64 x)) (2 ^ b))) ≡ int_div_euclid x (pos (2 ^ b))
 shifted x b f =
     ap (λ (z : ℤ). cast_signed w64 (cast_unsigned w64 (shr_z z (2 ^ b)))) (to_z-of_z w64 x f)
     ∙ to_z-of_z w64 (shr_z x (2 ^ b)) (record { sfits = omega (arith, f.sfits, mag_shr x (2 ^ b)) })

@@ -12,7 +12,7 @@ use Rattle.ir_ops.specs.declared.binary.OpOut.TheVariants.{Value, Poison, Undefi
 use Rattle.ir_ops.specs.declared.predicate.Pred.{Pred}
 use Rattle.ir_ops.specs.declared.predicate.Pred.TheVariants.{Eq, Ne, Ugt, Uge, Ult, Ule, Sgt, Sge, Slt, Sle}
 use Rattle.ir_ops.specs.declared.conversion.CastOp.{CastOp}
-use Rattle.ir_ops.specs.declared.conversion.CastOp.TheVariants.{Trunc, ZExt, SExt}
+use Rattle.ir_ops.specs.declared.conversion.CastOp.TheVariants.{Trunc, ZExt, SExt, PtrToInt}
 
 -- r and z differ by a multiple of 2 ^ w
 abbrev pub IsCongruent : ℕ → ℕ → ℤ → Type 0
@@ -88,6 +88,7 @@ abbrev pub Converts : ℕ → ℕ → CastOp → ℕ → ℕ → Type 0
 Converts w v Trunc a r = IsCongruent v r (pos a)
 Converts w v ZExt a r = r ≡ a
 Converts w v SExt a r = signed v r ≡ signed w a
+Converts w v PtrToInt a r = ⊥
 
 -- the table of the operations, the comparisons and the conversions, at every width
 pub record IsIntegerMathematics : Type 0 where

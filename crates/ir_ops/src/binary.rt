@@ -5,7 +5,7 @@ ghost use Rattle.ir_ops.specs.BinOp.{is_undefined, outcome};
 use crate::bits::{all_ones, bits_of, low_bits, sign_bit, with_sign};
 
 /// A binary operation on integers.
-#[derive(Clone, Copy, Debug, PartialEq, Eq, Hash)]
+#[derive(Clone, Copy, PartialEq, Eq)]
 pub enum BinOp {
     Add,
     Sub,
@@ -23,7 +23,7 @@ pub enum BinOp {
 }
 
 /// What an operation answers: a number, poison, or that the program's behaviour is undefined.
-#[derive(Clone, Copy, Debug, PartialEq, Eq, Hash)]
+#[derive(Clone, Copy, PartialEq, Eq)]
 pub enum OpOut {
     Value(u64),
     Poison,
@@ -37,20 +37,30 @@ pub fn apply<const W: u32>(op: BinOp, a: u64, b: u64) -> OpOut
     requires right { b < 2 ^ W }
     ensures { result ≡ outcome W op a b }
 {
+    apply_at(W, op, a, b)
+}
+
+/// Does an operation on two numbers of `width` bits, a width that is known only at run time.
+pub fn apply_at(width: u32, op: BinOp, a: u64, b: u64) -> OpOut
+    requires width { IsWidth width }
+    requires left { a < 2 ^ width }
+    requires right { b < 2 ^ width }
+    ensures { result ≡ outcome width op a b }
+{
     match op {
-        BinOp::Add => OpOut::Value(low_bits(W, a.wrapping_add(b))),
-        BinOp::Sub => OpOut::Value(low_bits(W, a.wrapping_sub(b))),
-        BinOp::Mul => OpOut::Value(low_bits(W, a.wrapping_mul(b))),
+        BinOp::Add => OpOut::Value(low_bits(width, a.wrapping_add(b))),
+        BinOp::Sub => OpOut::Value(low_bits(width, a.wrapping_sub(b))),
+        BinOp::Mul => OpOut::Value(low_bits(width, a.wrapping_mul(b))),
         BinOp::And => OpOut::Value(a & b),
         BinOp::Or => OpOut::Value(a | b),
         BinOp::Xor => OpOut::Value(a ^ b),
-        BinOp::Shl => shl(W, a, b),
-        BinOp::LShr => lshr(W, a, b),
-        BinOp::AShr => ashr(W, a, b),
-        BinOp::UDiv => udiv(W, a, b),
-        BinOp::URem => urem(W, a, b),
-        BinOp::SDiv => sdiv(W, a, b),
-        BinOp::SRem => srem(W, a, b),
+        BinOp::Shl => shl(width, a, b),
+        BinOp::LShr => lshr(width, a, b),
+        BinOp::AShr => ashr(width, a, b),
+        BinOp::UDiv => udiv(width, a, b),
+        BinOp::URem => urem(width, a, b),
+        BinOp::SDiv => sdiv(width, a, b),
+        BinOp::SRem => srem(width, a, b),
     }
 }
 

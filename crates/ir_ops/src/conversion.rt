@@ -4,12 +4,13 @@ ghost use Rattle.ir_ops.specs.CastOp.{CanCast, converted};
 
 use crate::bits::{bits_of, low_bits, with_sign};
 
-/// A conversion of an integer to another width.
-#[derive(Clone, Copy, Debug, PartialEq, Eq, Hash)]
+/// A conversion to an integer: of one of another width, or of a pointer, which stands in modules and is not computed here.
+#[derive(Clone, Copy, PartialEq, Eq)]
 pub enum CastOp {
     Trunc,
     ZExt,
     SExt,
+    PtrToInt,
 }
 
 /// Converts a number of `W` bits to one of `V` bits.
@@ -35,5 +36,6 @@ pub fn cast_at(from: u32, to: u32, op: CastOp, a: u64) -> u64
         CastOp::Trunc => low_bits(to, a),
         CastOp::ZExt => a,
         CastOp::SExt => bits_of(to, with_sign(from, a)),
+        CastOp::PtrToInt => unreachable!(),
     }
 }

@@ -9,16 +9,11 @@
 mod binary;
 mod bits;
 mod conversion;
-#[cfg(test)]
-mod edge_answers;
 mod laws;
 mod predicate;
-#[cfg(test)]
-mod tests;
-mod widths;
 
-pub use binary::{BinOp, OpOut, apply};
+pub use binary::{BinOp, OpOut, apply, apply_at};
+pub use bits::all_ones;
 pub use conversion::{CastOp, cast, cast_at};
 pub use laws::table_is_integer_mathematics;
-pub use predicate::{Pred, compare};
-pub use widths::{apply_at, compare_at};
+pub use predicate::{Pred, compare, compare_at};

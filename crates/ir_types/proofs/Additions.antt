@@ -38,7 +38,8 @@ more_notes types ss old new keeps kept = record {
   waiting = λ t part type at out is_part open_part. keeps part t (kept.waiting t part type at out is_part open_part);
 }
 
-pub sound_push : (types : List IrType) (ss : List Standing) (type : IrType) (known : ℕ) → AreSound types ss → AreSound (types ++ type ∷ []) (ss ++ Waiting known ∷ [])
+pub sound_push : (types : List IrType) (ss : List Standing) (type : IrType) (known : ℕ) → AreSound types ss
+    → AreSound (types ++ type ∷ []) (ss ++ Waiting known ∷ [])
 sound_push types ss type known sound t e is =
     let from = sound t e (sym (laid_push ss known t) ∙ is) in
     (from.0, layout_appended types (type ∷ []) 64 t from.0 from.1, from.2)
@@ -54,29 +55,36 @@ waiting_push types ss users type known waits noted t part ty at out is_part open
       | inr last ↦ subst (Has (users_of users part)) (sym last.0) (noted part (subst (λ (x : IrType). Has (parts x) part) (sym last.1) is_part) open')
     ]
 
-pub settled_push : (types : List IrType) (ss : List Standing) (type : IrType) (known : ℕ) → AreSettledBut [] types ss → AreSettledBut (length types ∷ []) (types ++ type ∷ []) (ss ++ Waiting known ∷ [])
+pub settled_push : (types : List IrType) (ss : List Standing) (type : IrType) (known : ℕ) → AreSettledBut [] types ss
+    → AreSettledBut (length types ∷ []) (types ++ type ∷ []) (ss ++ Waiting known ∷ [])
 settled_push types ss type known settled t ty at out pending =
     elim (get_push types type ty t at) [
-      | inl before ↦ blocked_alike ss (ss ++ Waiting known ∷ []) ty (laid_push ss known) (settled t ty before (sym (laid_push ss known t) ∙ out) (λ has. none-some t has.1))
+      | inl before ↦ blocked_alike ss (ss ++ Waiting known ∷ []) ty (laid_push ss known)
+          (settled t ty before (sym (laid_push ss known t) ∙ out) (λ has. none-some t has.1))
       | inr last ↦ absurd (pending (zero, ap Some (sym last.0)))
     ]
 
 -- ---- the same, for lists that are known to be these
-pub sound_new : (types types' : List IrType) (ss ss' : List Standing) (type : IrType) → types' ≡ types ++ type ∷ [] → ss' ≡ ss ++ Waiting 0 ∷ [] → AreSound types ss → AreSound types' ss'
+pub sound_new : (types types' : List IrType) (ss ss' : List Standing) (type : IrType) → types' ≡ types ++ type ∷ [] → ss' ≡ ss ++ Waiting 0 ∷ []
+    → AreSound types ss → AreSound types' ss'
 sound_new types types' ss ss' type e f sound =
     subst (λ (ts : List IrType). AreSound ts ss') (sym e) (subst (AreSound (types ++ type ∷ [])) (sym f) (sound_push types ss type 0 sound))
 
-pub waiting_new : (types types' : List IrType) (ss ss' : List Standing) (users users' users'' : List (List ℕ)) (type : IrType) → types' ≡ types ++ type ∷ [] → ss' ≡ ss ++ Waiting 0 ∷ [] → users'' ≡ users'
-    → HasAll users users' → AreWaiting users types ss → ((part : ℕ) → Has (parts type) part → laid ss part ≡ None → Has (users_of users' part) (length types)) → AreWaiting users'' types' ss'
+pub waiting_new : (types types' : List IrType) (ss ss' : List Standing) (users users' users'' : List (List ℕ)) (type : IrType) → types' ≡ types ++ type ∷ []
+    → ss' ≡ ss ++ Waiting 0 ∷ [] → users'' ≡ users'
+    → HasAll users users' → AreWaiting users types ss → ((part : ℕ) → Has (parts type) part → laid ss part ≡ None → Has (users_of users' part)
+    (length types)) → AreWaiting users'' types' ss'
 waiting_new types types' ss ss' users users' users'' type e f g keeps waits noted =
     subst (λ (us : List (List ℕ)). AreWaiting us types' ss') (sym g)
     (subst (λ (ts : List IrType). AreWaiting users' ts ss') (sym e)
     (subst (AreWaiting users' (types ++ type ∷ [])) (sym f)
     (waiting_push types ss users' type 0 (λ t part ty at out is_part open_part. keeps part t (waits t part ty at out is_part open_part)) noted)))
 
-pub settled_new : (types types' : List IrType) (ss ss' : List Standing) (type : IrType) → types' ≡ types ++ type ∷ [] → ss' ≡ ss ++ Waiting 0 ∷ [] → AreSettledBut [] types ss → AreSettledBut (length types ∷ []) types' ss'
+pub settled_new : (types types' : List IrType) (ss ss' : List Standing) (type : IrType) → types' ≡ types ++ type ∷ [] → ss' ≡ ss ++ Waiting 0 ∷ []
+    → AreSettledBut [] types ss → AreSettledBut (length types ∷ []) types' ss'
 settled_new types types' ss ss' type e f settled =
-    subst (λ (ts : List IrType). AreSettledBut (length types ∷ []) ts ss') (sym e) (subst (AreSettledBut (length types ∷ []) (types ++ type ∷ [])) (sym f) (settled_push types ss type 0 settled))
+    subst (λ (ts : List IrType). AreSettledBut (length types ∷ []) ts ss') (sym e)
+    (subst (AreSettledBut (length types ∷ []) (types ++ type ∷ [])) (sym f) (settled_push types ss type 0 settled))
 
 -- what a write of a whole list leaves
 pub whole_list : (n : ℕ) (xs ys : List Standing) → length xs ≡ n → length ys ≡ n → take n (xs ++ drop (length xs) ys) ≡ xs
@@ -85,17 +93,22 @@ whole_list n xs ys e f =
     let rest : drop (length xs) ys ≡ [] = subst (λ (k : ℕ). drop k ys ≡ []) same (drop-length ys) in
     ap (λ (zs : List Standing). take n (xs ++ zs)) rest ∙ ap (take n) (append-nil xs) ∙ take_all n xs (omega arith)
 
-pub kept_same : (types types' : List IrType) (ss ss' : List Standing) (users users' : List (List ℕ)) → types' ≡ types → ss' ≡ ss → HasAll users users' → IsKept types ss users → IsKept types' ss' users'
+pub kept_same : (types types' : List IrType) (ss ss' : List Standing) (users users' : List (List ℕ)) → types' ≡ types → ss' ≡ ss → HasAll users users'
+    → IsKept types ss users → IsKept types' ss' users'
 kept_same types types' ss ss' users users' e f keeps kept =
-    subst (λ (ts : List IrType). IsKept ts ss' users') (sym e) (subst (λ (xs : List Standing). IsKept types xs users') (sym f) (more_notes types ss users users' keeps kept))
+    subst (λ (ts : List IrType). IsKept ts ss' users') (sym e) (subst (λ (xs : List Standing). IsKept types xs users') (sym f)
+    (more_notes types ss users users' keeps kept))
 
-long_new : (types types' : List IrType) (ss ss' : List Standing) (type : IrType) → types' ≡ types ++ type ∷ [] → ss' ≡ ss ++ Waiting 0 ∷ [] → length ss ≡ length types → length ss' ≡ length types'
+long_new : (types types' : List IrType) (ss ss' : List Standing) (type : IrType) → types' ≡ types ++ type ∷ [] → ss' ≡ ss ++ Waiting 0 ∷ []
+    → length ss ≡ length types → length ss' ≡ length types'
 long_new types types' ss ss' type e f l =
     omega (arith, ap length e, ap length f, length-append types (type ∷ []), length-append ss (Waiting 0 ∷ []))
 
-pub kept_new : (types types' : List IrType) (ss ss' new : List Standing) (users users' : List (List ℕ)) (type : IrType) → types' ≡ types ++ type ∷ [] → ss' ≡ ss ++ Waiting 0 ∷ []
+pub kept_new : (types types' : List IrType) (ss ss' new : List Standing) (users users' : List (List ℕ)) (type : IrType) → types' ≡ types ++ type ∷ []
+    → ss' ≡ ss ++ Waiting 0 ∷ []
     → HasAll users users' → IsKept types ss users → ((part : ℕ) → Has (parts type) part → laid ss part ≡ None → Has (users_of users' part) (length types))
-    → length new ≡ length ss' → AreSound types' new → Grows ss' new → ((pending : List ℕ) → AreSettledBut (length types ∷ pending) types' ss' → AreSettledBut pending types' new)
+    → length new ≡ length ss' → AreSound types' new → Grows ss' new
+    → ((pending : List ℕ) → AreSettledBut (length types ∷ pending) types' ss' → AreSettledBut pending types' new)
     → IsKept types' new users'
 kept_new types types' ss ss' new users users' type e f keeps kept noted long sound grows settled = record {
   long = long ∙ long_new types types' ss ss' type e f kept.long;

@@ -1,5 +1,6 @@
 -- Layouts of types from the layouts of their parts.
-use Rattle.std.proofs.Common.{ℕ, zero, suc, ◌+◌, ◌-◌, ◌<◌, ◌≤◌, ◌≡◌, refl, sym, ap, subst, ◌∙◌, max, arith, Option, None, Some, List, [], ◌∷◌, ◌++◌, length, get_or, take, zero-add}
+use Rattle.std.proofs.Common.{ℕ, zero, suc, ◌+◌, ◌-◌, ◌<◌, ◌≤◌, ◌≡◌, refl, sym, ap, subst, ◌∙◌, max, arith, Option, None, Some, List, [], ◌∷◌, ◌++◌, length}
+use Rattle.std.proofs.Common.{get_or, take, zero-add}
 use Rattle.std.specs.Prelude.{slice_get}
 use Rattle.std.specs.Option.{option_map, option_and_then}
 use Rattle.std.proofs.lemmas.Option.{none-some, same_Some, slice_get-map, slice_get-get_or}
@@ -32,13 +33,15 @@ get_appended (y ∷ xs) ys zero x e = e
 get_appended (y ∷ xs) ys (suc k) x e = get_appended xs ys k x e
 
 -- ---- the parts of a struct
-pub numbers_more : (fields : List TypeId) (i : ℕ) (d : TypeId) → i < length fields → numbers (take (i + 1) fields) ≡ numbers (take i fields) ++ (get_or fields i d).0 ∷ []
+pub numbers_more : (fields : List TypeId) (i : ℕ) (d : TypeId) → i < length fields
+    → numbers (take (i + 1) fields) ≡ numbers (take i fields) ++ (get_or fields i d).0 ∷ []
 numbers_more fields i d l = ap numbers (take_more fields i d l) ∙ map-append (λ (t : TypeId). t.0) (take i fields) (get_or fields i d ∷ [])
 
 pub number_at : (fields : List TypeId) (i : ℕ) (d : TypeId) → i < length fields → slice_get (numbers fields) i ≡ Some (get_or fields i d).0
 number_at fields i d l = slice_get-map (λ (t : TypeId). t.0) fields i ∙ ap (option_map (λ (t : TypeId). t.0)) (slice_get-get_or fields i d l)
 
-pub every_push : (of : ℕ → Option Layout) (ts : List ℕ) (ls : List Layout) (t : ℕ) (l : Layout) → every of ts ≡ Some ls → of t ≡ Some l → every of (ts ++ t ∷ []) ≡ Some (ls ++ l ∷ [])
+pub every_push : (of : ℕ → Option Layout) (ts : List ℕ) (ls : List Layout) (t : ℕ) (l : Layout) → every of ts ≡ Some ls → of t ≡ Some l
+    → every of (ts ++ t ∷ []) ≡ Some (ls ++ l ∷ [])
 every_push of [] ls t l e f = rw f (ap (λ (xs : List Layout). Some (xs ++ l ∷ [])) (same_Some [] ls e))
 every_push of (x ∷ ts) ls t l e f =
     let split = joined_some (of x) (every of ts) ls e in
@@ -50,7 +53,8 @@ pub greatest_least : (least : ℕ) (ls : List Layout) → least ≤ greatest (λ
 greatest_least least [] = omega arith
 greatest_least least (l ∷ ls) = omega (arith, greatest_least (max least l.nesting) ls)
 
-pub greatest_bound : (least most : ℕ) (of : ℕ → Option Layout) (ts : List ℕ) (ls : List Layout) → every of ts ≡ Some ls → least ≤ most → ((t : ℕ) (l : Layout) → of t ≡ Some l → l.nesting ≤ most) → greatest (λ l. l.nesting) least ls ≤ most
+pub greatest_bound : (least most : ℕ) (of : ℕ → Option Layout) (ts : List ℕ) (ls : List Layout) → every of ts ≡ Some ls → least ≤ most
+    → ((t : ℕ) (l : Layout) → of t ≡ Some l → l.nesting ≤ most) → greatest (λ l. l.nesting) least ls ≤ most
 greatest_bound least most of [] ls e b h = subst (λ (xs : List Layout). greatest (λ l. l.nesting) least xs ≤ most) (same_Some [] ls e) b
 greatest_bound least most of (t ∷ ts) ls e b h =
     let split = joined_some (of t) (every of ts) ls e in
@@ -59,27 +63,36 @@ greatest_bound least most of (t ∷ ts) ls e b h =
     (greatest_bound (max least split.0.nesting) most of ts split.1 split.3 (omega arith) h)
 
 -- ---- the same layouts from another table of parts
-pub every_along : (f g : ℕ → Option Layout) (least most : ℕ) (ts : List ℕ) (ls : List Layout) → every f ts ≡ Some ls → greatest (λ l. l.nesting) least ls ≤ most → ((t : ℕ) (l : Layout) → f t ≡ Some l → l.nesting ≤ most → g t ≡ Some l) → every g ts ≡ Some ls
+pub every_along : (f g : ℕ → Option Layout) (least most : ℕ) (ts : List ℕ) (ls : List Layout) → every f ts ≡ Some ls
+    → greatest (λ l. l.nesting) least ls ≤ most → ((t : ℕ) (l : Layout) → f t ≡ Some l → l.nesting ≤ most → g t ≡ Some l) → every g ts ≡ Some ls
 every_along f g least most [] ls e b h = e
 every_along f g least most (t ∷ ts) ls e b h =
     let split = joined_some (f t) (every f ts) ls e in
-    let within : greatest (λ l. l.nesting) (max least split.0.nesting) split.1 ≤ most = subst (λ (xs : List Layout). greatest (λ l. l.nesting) least xs ≤ most) (sym split.4) b in
+    let within : greatest (λ l. l.nesting) (max least split.0.nesting) split.1 ≤ most = subst
+    (λ (xs : List Layout). greatest (λ l. l.nesting) least xs ≤ most) (sym split.4) b in
     let one : g t ≡ Some split.0 = h t split.0 split.2 (omega (arith, greatest_least (max least split.0.nesting) split.1)) in
     let rest : every g ts ≡ Some split.1 = every_along f g (max least split.0.nesting) most ts split.1 split.3 within h in
     rw (one, rest) (ap Some split.4)
 
-pub every_part : (f : ℕ → Option Layout) (least : ℕ) (ts : List ℕ) (ls : List Layout) (k t : ℕ) → every f ts ≡ Some ls → slice_get ts k ≡ Some t → (l : Layout) × (f t ≡ Some l) × (l.nesting ≤ greatest (λ l. l.nesting) least ls)
+pub every_part : (f : ℕ → Option Layout) (least : ℕ) (ts : List ℕ) (ls : List Layout) (k t : ℕ) → every f ts ≡ Some ls → slice_get ts k ≡ Some t
+    → (l : Layout) × (f t ≡ Some l) × (l.nesting ≤ greatest (λ l. l.nesting) least ls)
 every_part f least [] ls k t e at = absurd (none-some t at)
 every_part f least (x ∷ ts) ls zero t e at =
     let split = joined_some (f x) (every f ts) ls e in
-    let bound : split.0.nesting ≤ greatest (λ l. l.nesting) (max least split.0.nesting) split.1 = omega (arith, greatest_least (max least split.0.nesting) split.1) in
-    (split.0, subst (λ (y : ℕ). f y ≡ Some split.0) (same_Some x t at) split.2, subst (λ (xs : List Layout). split.0.nesting ≤ greatest (λ l. l.nesting) least xs) split.4 bound)
+    let bound : split.0.nesting ≤ greatest (λ l. l.nesting) (max least split.0.nesting) split.1 = omega
+    (arith, greatest_least (max least split.0.nesting) split.1) in (
+      split.0,
+      subst (λ (y : ℕ). f y ≡ Some split.0) (same_Some x t at) split.2,
+      subst
+          (λ (xs : List Layout). split.0.nesting ≤ greatest (λ l. l.nesting) least xs) split.4 bound,
+    )
 every_part f least (x ∷ ts) ls (suc k) t e at =
     let split = joined_some (f x) (every f ts) ls e in
     let rest = every_part f (max least split.0.nesting) ts split.1 k t split.3 at in
     (rest.0, rest.1, subst (λ (xs : List Layout). rest.0.nesting ≤ greatest (λ l. l.nesting) least xs) split.4 rest.2)
 
-pub laid_out_along : (f g : ℕ → Option Layout) (type : IrType) (l : Layout) → laid_out f type ≡ Some l → ((t : ℕ) (p : Layout) → f t ≡ Some p → p.nesting < l.nesting → g t ≡ Some p) → laid_out g type ≡ Some l
+pub laid_out_along : (f g : ℕ → Option Layout) (type : IrType) (l : Layout) → laid_out f type ≡ Some l
+    → ((t : ℕ) (p : Layout) → f t ≡ Some p → p.nesting < l.nesting → g t ≡ Some p) → laid_out g type ≡ Some l
 laid_out_along f g Void l e h = e
 laid_out_along f g (Int width) l e h = e
 laid_out_along f g Ptr l e h = e
@@ -96,7 +109,8 @@ laid_out_along f g (Struct fields packed) l e h =
     every_along f g 0 (greatest (λ x. x.nesting) 0 from.0) (numbers fields) from.0 from.1 (omega arith) (λ t p is b. h t p is (omega arith)) in
     rw all (ap Some from.2)
 
-pub laid_out_part : (f : ℕ → Option Layout) (type : IrType) (l : Layout) (p : ℕ) → laid_out f type ≡ Some l → Has (parts type) p → (q : Layout) × (f p ≡ Some q) × (q.nesting < l.nesting)
+pub laid_out_part : (f : ℕ → Option Layout) (type : IrType) (l : Layout) (p : ℕ) → laid_out f type ≡ Some l → Has (parts type) p
+    → (q : Layout) × (f p ≡ Some q) × (q.nesting < l.nesting)
 laid_out_part f Void l p e (k, at) = absurd (none-some p at)
 laid_out_part f (Int width) l p e (k, at) = absurd (none-some p at)
 laid_out_part f Ptr l p e (k, at) = absurd (none-some p at)
@@ -152,7 +166,8 @@ shallow f (Struct fields packed) l e b =
     let deeper : suc (greatest (λ x. x.nesting) 0 from.0) ≡ l.nesting = ap (λ (x : Layout). x.nesting) from.2 in
     absurd (omega arith)
 
-laid_out_depth : (f : ℕ → Option Layout) (type : IrType) (l : Layout) (k : ℕ) → laid_out f type ≡ Some l → ((t : ℕ) (p : Layout) → f t ≡ Some p → p.nesting ≤ k) → l.nesting ≤ suc k
+laid_out_depth : (f : ℕ → Option Layout) (type : IrType) (l : Layout) (k : ℕ) → laid_out f type ≡ Some l
+    → ((t : ℕ) (p : Layout) → f t ≡ Some p → p.nesting ≤ k) → l.nesting ≤ suc k
 laid_out_depth f Void l k e h = omega (arith, flat_depth Void l e)
 laid_out_depth f (Int width) l k e h = omega (arith, flat_depth (Int width) l e)
 laid_out_depth f Ptr l k e h = omega (arith, flat_depth Ptr l e)
@@ -167,19 +182,23 @@ laid_out_depth f (Struct fields packed) l k e h =
     omega (arith, greatest_bound 0 k f (numbers fields) from.0 from.1 (omega arith) h)
 
 -- ---- the layout of a type of a table
-pub layout_entry : (types : List IrType) (k t : ℕ) (l : Layout) → layout types (suc k) t ≡ Some l → (type : IrType) × (slice_get types t ≡ Some type) × (laid_out (layout types k) type ≡ Some l)
+pub layout_entry : (types : List IrType) (k t : ℕ) (l : Layout) → layout types (suc k) t ≡ Some l
+    → (type : IrType) × (slice_get types t ≡ Some type) × (laid_out (layout types k) type ≡ Some l)
 unfolding layout
 layout_entry types k t l e = and_then_some (laid_out (layout types k)) (slice_get types t) l e
 
-pub layout_flat : (types : List IrType) (t : ℕ) (l : Layout) → layout types zero t ≡ Some l → (type : IrType) × (slice_get types t ≡ Some type) × (undivided type ≡ Some l)
+pub layout_flat : (types : List IrType) (t : ℕ) (l : Layout) → layout types zero t ≡ Some l
+    → (type : IrType) × (slice_get types t ≡ Some type) × (undivided type ≡ Some l)
 unfolding layout
 layout_flat types t l e = and_then_some undivided (slice_get types t) l e
 
-pub layout_from_entry : (types : List IrType) (k t : ℕ) (l : Layout) (type : IrType) → slice_get types t ≡ Some type → laid_out (layout types k) type ≡ Some l → layout types (suc k) t ≡ Some l
+pub layout_from_entry : (types : List IrType) (k t : ℕ) (l : Layout) (type : IrType) → slice_get types t ≡ Some type
+    → laid_out (layout types k) type ≡ Some l → layout types (suc k) t ≡ Some l
 unfolding layout
 layout_from_entry types k t l type at e = rw at e
 
-layout_from_flat : (types : List IrType) (t : ℕ) (l : Layout) (type : IrType) → slice_get types t ≡ Some type → undivided type ≡ Some l → layout types zero t ≡ Some l
+layout_from_flat : (types : List IrType) (t : ℕ) (l : Layout) (type : IrType) → slice_get types t ≡ Some type → undivided type ≡ Some l
+    → layout types zero t ≡ Some l
 unfolding layout
 layout_from_flat types t l type at e = rw at e
 

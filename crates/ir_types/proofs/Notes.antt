@@ -1,5 +1,6 @@
 -- Notes of the types that wait, before and after a note.
-use Rattle.std.proofs.Common.{ℕ, zero, suc, ◌+◌, ◌<◌, ◌≡◌, refl, sym, ap, subst, ◌∙◌, arith, inl, inr, eqb, true, Option, None, Some, List, [], ◌∷◌, ◌++◌, length, get_or, set}
+use Rattle.std.proofs.Common.{ℕ, zero, suc, ◌+◌, ◌<◌, ◌≡◌, refl, sym, ap, subst, ◌∙◌, arith, inl, inr, eqb, true, Option, None, Some, List, [], ◌∷◌, ◌++◌}
+use Rattle.std.proofs.Common.{length, get_or, set}
 use Rattle.std.specs.Prelude.{slice_get}
 use Rattle.std.specs.Option.{unwrap_or, option_eq}
 use Rattle.std.proofs.lemmas.Option.{none-some, same_Some, slice_get_read}
@@ -28,17 +29,20 @@ has_new [] user = (zero, refl)
 has_new (t ∷ ts) user = let rest = has_new ts user in (suc rest.0, rest.1)
 
 -- the notes of one part grow
-pub note_keeps : (users : List (List ℕ)) (part : ℕ) (old new : List ℕ) → part < length users → old ≡ get_or users part old → ((t : ℕ) → Has old t → Has new t) → HasAll users (set users part new)
+pub note_keeps : (users : List (List ℕ)) (part : ℕ) (old new : List ℕ) → part < length users → old ≡ get_or users part old
+    → ((t : ℕ) → Has old t → Has new t) → HasAll users (set users part new)
 note_keeps users part old new l is grows p t h =
     elim (cases_eq p part) [
       | inl same ↦
           (let at : users_of users part ≡ old = ap (λ (o : Option (List ℕ)). unwrap_or o []) (slice_get_read users (length users) part old refl l is) in
           let before = subst (λ (ts : List ℕ). Has ts t) at (subst (λ (q : ℕ). Has (users_of users q) t) same h) in
-          subst (λ (q : ℕ). Has (users_of (set users part new) q) t) (sym same) (subst (λ (ts : List ℕ). Has ts t) (sym (users_at_set users part new l)) (grows t before)))
+          subst (λ (q : ℕ). Has (users_of (set users part new) q) t) (sym same)
+          (subst (λ (ts : List ℕ). Has ts t) (sym (users_at_set users part new l)) (grows t before)))
       | inr other ↦ subst (λ (o : Option (List ℕ)). Has (unwrap_or o []) t) (sym (get_set_other users part p new other)) h
     ]
 
-pub note_has : (users : List (List ℕ)) (part user : ℕ) (old new : List ℕ) → part < length users → new ≡ old ++ user ∷ [] → Has (users_of (set users part new) part) user
+pub note_has : (users : List (List ℕ)) (part user : ℕ) (old new : List ℕ) → part < length users → new ≡ old ++ user ∷ []
+    → Has (users_of (set users part new) part) user
 note_has users part user old new l is =
     subst (λ (ts : List ℕ). Has ts user) (sym (users_at_set users part new l)) (subst (λ (ts : List ℕ). Has ts user) (sym is) (has_new old user))
 
@@ -47,7 +51,8 @@ same_number None x e = absurd (true≢false (sym e))
 same_number (Some y) x e = ap Some (eqb-true y x e)
 
 -- the last note is this one
-pub last_has : (users : List (List ℕ)) (part user : ℕ) (ts : List ℕ) (last : Option ℕ) (k : ℕ) → part < length users → ts ≡ get_or users part ts → last ≡ slice_get ts k → true ≡ option_eq eqb last (Some user) → Has (users_of users part) user
+pub last_has : (users : List (List ℕ)) (part user : ℕ) (ts : List ℕ) (last : Option ℕ) (k : ℕ) → part < length users → ts ≡ get_or users part ts
+    → last ≡ slice_get ts k → true ≡ option_eq eqb last (Some user) → Has (users_of users part) user
 last_has users part user ts last k l is at e =
     let here : users_of users part ≡ ts = ap (λ (o : Option (List ℕ)). unwrap_or o []) (slice_get_read users (length users) part ts refl l is) in
     subst (λ (xs : List ℕ). Has xs user) (sym here) (k, sym at ∙ same_number last user (sym e))

@@ -1,5 +1,6 @@
 -- What the queries answer.
-use Rattle.std.proofs.Common.{ℕ, ◌<◌, ◌≤◌, ◌^◌, ◌≡◌, refl, sym, ap, subst, ◌∙◌, arith, true, false, not, Bool, Option, None, Some, Ok, Err, Result, List, [], lt-ltb}
+use Rattle.std.proofs.Common.{ℕ, ◌<◌, ◌≤◌, ◌^◌, ◌≡◌, refl, sym, ap, subst, ◌∙◌, arith, true, false, not, Bool, Option, None, Some, Ok, Err, Result, List}
+use Rattle.std.proofs.Common.{[], lt-ltb}
 use Rattle.std.specs.Prelude.{nat_lt, if◌then◌else◌}
 use Rattle.std.proofs.lemmas.Option.{none-some}
 use Rattle.std.proofs.lemmas.Bool.{le-ltb}
@@ -24,7 +25,8 @@ judged_unsized o l e h s = rw (e, le-ltb (2 ^ 40) l.size h, s) refl
 
 pub judged_ok : (o : Option Layout) (l : Layout) (x : Extent) → o ≡ Some l → l.size ≤ 2 ^ 40 → l.is_sized ≡ true → Shows l x → IsJudged o (Ok x)
 judged_ok o l x e h s shows =
-    let all : Judges (if l.is_sized then Ok l else Err refused.Unsized) (Ok x) = subst (λ (b : Bool). Judges (if b then Ok l else Err refused.Unsized) (Ok x)) (sym s) (x, refl, shows, h) in
+    let all : Judges (if l.is_sized then Ok l else Err refused.Unsized) (Ok x) = subst
+    (λ (b : Bool). Judges (if b then Ok l else Err refused.Unsized) (Ok x)) (sym s) (x, refl, shows, h) in
     rw (e, le-ltb (2 ^ 40) l.size h) all
 
 pub kept_true : (b : Bool) → not b ≡ false → b ≡ true
@@ -51,13 +53,15 @@ same_extent x y e = cc
 unlike : (x : TypeRefusal) (y : Extent) → ◌≡◌ {A = Result Extent TypeRefusal} (Err x) (Ok y) → ⊥
 unlike x y e = cc
 
-err_tests : (big sized : Bool) (l : Layout) (x : TypeRefusal) (shown : Layout → ℕ) → Judges (if big then Err refused.Huge else (if sized then Ok l else Err refused.Unsized)) (Err x)
+err_tests : (big sized : Bool) (l : Layout) (x : TypeRefusal) (shown : Layout → ℕ)
+    → Judges (if big then Err refused.Huge else (if sized then Ok l else Err refused.Unsized)) (Err x)
     → Err x ≡ (if big then Err refused.Huge else (if sized then Ok (shown l) else Err refused.Unsized))
 err_tests true sized l x shown h = ap Err (same_refusal x refused.Huge h)
 err_tests false true l x shown (e, is, shows, small) = absurd (unlike x e is)
 err_tests false false l x shown h = ap Err (same_refusal x refused.Unsized h)
 
-ok_tests : (big sized : Bool) (l : Layout) (e : Extent) (shown : Layout → ℕ) (n : ℕ) → (Shows l e → l.size ≤ 2 ^ 40 → n ≡ shown l) → Judges (if big then Err refused.Huge else (if sized then Ok l else Err refused.Unsized)) (Ok e)
+ok_tests : (big sized : Bool) (l : Layout) (e : Extent) (shown : Layout → ℕ) (n : ℕ) → (Shows l e → l.size ≤ 2 ^ 40 → n ≡ shown l)
+    → Judges (if big then Err refused.Huge else (if sized then Ok l else Err refused.Unsized)) (Ok e)
     → Ok n ≡ (if big then Err refused.Huge else (if sized then Ok (shown l) else Err refused.Unsized))
 ok_tests true sized l e shown n h j = absurd (unlike refused.Huge e (sym j))
 ok_tests false true l e shown n h (x, is, shows, small) = ap Ok (h (subst (Shows l) (sym (same_extent e x is)) shows) small)
@@ -67,7 +71,8 @@ pub err_is : (o : Option Layout) (x : TypeRefusal) (shown : Layout → ℕ) → 
 err_is None x shown h = ap Err (same_refusal x refused.Deep h)
 err_is (Some l) x shown h = err_tests (nat_lt (2 ^ 40) l.size) l.is_sized l x shown h
 
-pub ok_is : (o : Option Layout) (e : Extent) (shown : Layout → ℕ) (n : ℕ) → ((l : Layout) → o ≡ Some l → Shows l e → l.size ≤ 2 ^ 40 → n ≡ shown l) → IsJudged o (Ok e) → Ok n ≡ checked shown o
+pub ok_is : (o : Option Layout) (e : Extent) (shown : Layout → ℕ) (n : ℕ) → ((l : Layout) → o ≡ Some l → Shows l e → l.size ≤ 2 ^ 40 → n ≡ shown l)
+    → IsJudged o (Ok e) → Ok n ≡ checked shown o
 ok_is None e shown n h j = absurd (unlike refused.Deep e (sym j))
 ok_is (Some l) e shown n h j = ok_tests (nat_lt (2 ^ 40) l.size) l.is_sized l e shown n (h l refl) j
 

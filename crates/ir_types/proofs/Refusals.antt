@@ -1,5 +1,6 @@
 -- The refusals by the parts of a type.
-use Rattle.std.proofs.Common.{ℕ, zero, suc, ◌<◌, ◌^◌, ◌≡◌, refl, sym, ap, subst, ◌∙◌, inl, inr, true, false, Bool, Option, None, Some, Ok, Err, Result, List, [], ◌∷◌, get_or, lt-ltb}
+use Rattle.std.proofs.Common.{ℕ, zero, suc, ◌<◌, ◌^◌, ◌≡◌, refl, sym, ap, subst, ◌∙◌, inl, inr, true, false, Bool, Option, None, Some, Ok, Err, Result}
+use Rattle.std.proofs.Common.{List, [], ◌∷◌, get_or, lt-ltb}
 use Rattle.std.specs.Prelude.{slice_get, nat_lt, if◌then◌else◌, ◌⊎◌, ◌↔◌, ◌&&◌}
 use Rattle.std.specs.Option.{option_map, option_and_then}
 use Rattle.std.specs.List.{list_all}
@@ -22,7 +23,8 @@ every_lacks : (f : ℕ → Option Layout) (ts : List ℕ) → every f ts ≡ Non
 every_lacks f [] e = absurd (none-some [] (sym e))
 every_lacks f (t ∷ ts) e = go (f t) refl (every f ts) refl (every_lacks f ts)
   where
-    go : (o : Option Layout) → f t ≡ o → (others : Option (List Layout)) → every f ts ≡ others → (every f ts ≡ None → (u : ℕ) × Has ts u × (f u ≡ None)) → (u : ℕ) × Has (t ∷ ts) u × (f u ≡ None)
+    go : (o : Option Layout) → f t ≡ o → (others : Option (List Layout)) → every f ts ≡ others
+        → (every f ts ≡ None → (u : ℕ) × Has ts u × (f u ≡ None)) → (u : ℕ) × Has (t ∷ ts) u × (f u ≡ None)
     go None is others rest later = (t, (zero, refl), is)
     go (Some l) is None rest later = let u = later rest in (u.0, (suc u.1.0, u.1.1), u.2)
     go (Some l) is (Some ls) rest later =
@@ -78,7 +80,8 @@ flat_lacks : (types : List IrType) (t : ℕ) (type : IrType) → slice_get types
 unfolding layout
 flat_lacks types t type at e = subst (λ (o : Option IrType). option_and_then undivided o ≡ None) at e
 
-entry_lacks : (types : List IrType) (k t : ℕ) (type : IrType) → slice_get types t ≡ Some type → layout types (suc k) t ≡ None → laid_out (layout types k) type ≡ None
+entry_lacks : (types : List IrType) (k t : ℕ) (type : IrType) → slice_get types t ≡ Some type → layout types (suc k) t ≡ None
+    → laid_out (layout types k) type ≡ None
 unfolding layout
 entry_lacks types k t type at e = subst (λ (o : Option IrType). option_and_then (laid_out (layout types k)) o ≡ None) at e
 
@@ -98,7 +101,8 @@ deeper_if_none types (suc k) t whole e =
     (type, lacks.0, at, lacks.1, deeper_if_none types k lacks.0 (λ steps u reached. whole (suc steps) u (type, lacks.0, at, lacks.1, reached)) lacks.2)
 
 -- the part of a type that is laid out
-part_of : (types : List IrType) (k t : ℕ) (l : Layout) (type : IrType) (part : ℕ) → layout types (suc k) t ≡ Some l → slice_get types t ≡ Some type → Has (parts type) part → (q : Layout) × (layout types k part ≡ Some q)
+part_of : (types : List IrType) (k t : ℕ) (l : Layout) (type : IrType) (part : ℕ) → layout types (suc k) t ≡ Some l → slice_get types t ≡ Some type
+    → Has (parts type) part → (q : Layout) × (layout types k part ≡ Some q)
 part_of types k t l type part e at has =
     let from = layout_entry types k t l e in
     let same : type ≡ from.0 = same_Some type from.0 (sym at ∙ from.1) in
@@ -150,7 +154,8 @@ every_unsized f (t ∷ ts) ls e s =
         let found = later (sized_and l.is_sized (list_all (λ (l : Layout). l.is_sized) rest) all is) in
         (found.0, found.1, (suc found.2.0, found.2.1), found.3, found.4)
 
-unsized_every : (f : ℕ → Option Layout) (ts : List ℕ) (ls : List Layout) (k part : ℕ) (q : Layout) → every f ts ≡ Some ls → slice_get ts k ≡ Some part → f part ≡ Some q → q.is_sized ≡ false
+unsized_every : (f : ℕ → Option Layout) (ts : List ℕ) (ls : List Layout) (k part : ℕ) (q : Layout) → every f ts ≡ Some ls → slice_get ts k ≡ Some part
+    → f part ≡ Some q → q.is_sized ≡ false
     → list_all (λ (l : Layout). l.is_sized) ls ≡ false
 unsized_every f [] ls k part q e at is s = absurd (none-some part at)
 unsized_every f (t ∷ ts) ls zero part q e at is s =
@@ -179,7 +184,8 @@ laid_out_unsized f (Struct fields packed) l e s =
     let from = map_some (struct_of packed) (every f (numbers fields)) l e in
     inr (every_unsized f (numbers fields) from.0 from.1 (ap (λ (x : Layout). x.is_sized) from.2 ∙ s))
 
-unsized_laid_out : (f : ℕ → Option Layout) (type : IrType) (l : Layout) (part : ℕ) (q : Layout) → laid_out f type ≡ Some l → Has (parts type) part → f part ≡ Some q → q.is_sized ≡ false → l.is_sized ≡ false
+unsized_laid_out : (f : ℕ → Option Layout) (type : IrType) (l : Layout) (part : ℕ) (q : Layout) → laid_out f type ≡ Some l → Has (parts type) part
+    → f part ≡ Some q → q.is_sized ≡ false → l.is_sized ≡ false
 unsized_laid_out f Void l part q e (k, at) is s = absurd (none-some part at)
 unsized_laid_out f (Int width) l part q e (k, at) is s = absurd (none-some part at)
 unsized_laid_out f Ptr l part q e (k, at) is s = absurd (none-some part at)
@@ -218,7 +224,8 @@ part_if_unsized types (suc k) t l e s =
           (suc rest.0, rest.1, (from.0, more.0, from.1, more.2, rest.2), rest.3))
     ]
 
-unsized_if_here : (types : List IrType) (k t : ℕ) (l : Layout) → layout types k t ≡ Some l → (slice_get types t ≡ Some Void) ⊎ (slice_get types t ≡ Some Opaque) → l.is_sized ≡ false
+unsized_if_here : (types : List IrType) (k t : ℕ) (l : Layout) → layout types k t ≡ Some l
+    → (slice_get types t ≡ Some Void) ⊎ (slice_get types t ≡ Some Opaque) → l.is_sized ≡ false
 unsized_if_here types k t l e here =
     let from = layout_entry types k t l (layout_more types k t l e) in
     elim here [
@@ -232,7 +239,8 @@ unsized_if_here types k t l e here =
           sym (ap (λ (x : Layout). x.is_sized) (same_Some unsized l flat)))
     ]
 
-unsized_if_part : (types : List IrType) (k t : ℕ) (l : Layout) (steps u : ℕ) → layout types k t ≡ Some l → IsReached types steps t u → (slice_get types u ≡ Some Void) ⊎ (slice_get types u ≡ Some Opaque) → l.is_sized ≡ false
+unsized_if_part : (types : List IrType) (k t : ℕ) (l : Layout) (steps u : ℕ) → layout types k t ≡ Some l → IsReached types steps t u
+    → (slice_get types u ≡ Some Void) ⊎ (slice_get types u ≡ Some Opaque) → l.is_sized ≡ false
 unsized_if_part types k t l zero u e same here =
     unsized_if_here types k t l e (subst (λ (x : ℕ). (slice_get types x ≡ Some Void) ⊎ (slice_get types x ≡ Some Opaque)) (sym same) here)
 unsized_if_part types k t l (suc steps) u e (type, part, at, has, reached) here =
@@ -289,7 +297,8 @@ huge_from (Some l) e = (l, refl, ltb-true (2 ^ 40) l.size (huge_test (nat_lt (2 
 huge_is : (o : Option Layout) (l : Layout) → o ≡ Some l → 2 ^ 40 < l.size → checked (λ l. l.size) o ≡ Err refused.Huge
 huge_is o l e h = rw (e, lt-ltb (2 ^ 40) l.size h) refl
 
-unsized_from : (o : Option Layout) → checked (λ l. l.size) o ≡ Err refused.Unsized → (l : Layout) × (o ≡ Some l) × (nat_lt (2 ^ 40) l.size ≡ false) × (l.is_sized ≡ false)
+unsized_from : (o : Option Layout) → checked (λ l. l.size) o ≡ Err refused.Unsized
+    → (l : Layout) × (o ≡ Some l) × (nat_lt (2 ^ 40) l.size ≡ false) × (l.is_sized ≡ false)
 unsized_from None e = absurd (unsized_is_not_deep (sym (one_refusal refused.Deep refused.Unsized e)))
 unsized_from (Some l) e =
     let tests = unsized_test (nat_lt (2 ^ 40) l.size) l.is_sized l.size e in
@@ -310,7 +319,8 @@ ring_law types steps t ring = (deep_iff_none (layout types 64 t)).1 (none_if_dee
 huge_law : (types : List IrType) (t : ℕ) → (size types t ≡ Err refused.Huge) ↔ IsHuge types t
 huge_law types t = (λ e. huge_from (layout types 64 t) e, λ (l, is, big). huge_is (layout types 64 t) l is big)
 
-unsized_law : (types : List IrType) (t : ℕ) → IsWhole types t → (size types t ≡ Err refused.Unsized) ↔ ((IsDeeper types 64 t → ⊥) × (IsHuge types t → ⊥) × HasUnsizedPart types t)
+unsized_law : (types : List IrType) (t : ℕ) → IsWhole types t
+    → (size types t ≡ Err refused.Unsized) ↔ ((IsDeeper types 64 t → ⊥) × (IsHuge types t → ⊥) × HasUnsizedPart types t)
 unsized_law types t whole = (there, back)
   where
     there : size types t ≡ Err refused.Unsized → (IsDeeper types 64 t → ⊥) × (IsHuge types t → ⊥) × HasUnsizedPart types t
@@ -318,7 +328,8 @@ unsized_law types t whole = (there, back)
         let from = unsized_from (layout types 64 t) e in (
           λ deeper. none-some from.0 (sym (none_if_deeper types 64 t deeper) ∙ from.1),
           λ huge.
-              true≢false (sym (lt-ltb (2 ^ 40) huge.0.size huge.2) ∙ ap (λ (l : Layout). nat_lt (2 ^ 40) l.size) (same_Some huge.0 from.0 (sym huge.1 ∙ from.1)) ∙ from.2),
+              true≢false (sym (lt-ltb (2 ^ 40) huge.0.size huge.2) ∙ ap (λ (l : Layout). nat_lt (2 ^ 40) l.size)
+              (same_Some huge.0 from.0 (sym huge.1 ∙ from.1)) ∙ from.2),
           part_if_unsized types 64 t from.0 from.1 from.3,
         )
 

@@ -44,7 +44,8 @@ open_back old new t grows e = go (laid old t) refl
     go None is = is
     go (Some x) is = absurd (none-some x (sym e ∙ grows t x is))
 
-pub waiting_grows : (users : List (List ℕ)) (types : List IrType) (old new : List Standing) → Grows old new → AreWaiting users types old → AreWaiting users types new
+pub waiting_grows : (users : List (List ℕ)) (types : List IrType) (old new : List Standing) → Grows old new → AreWaiting users types old
+    → AreWaiting users types new
 waiting_grows users types old new grows h t part type at open_t is_part open_part =
     h t part type at (open_back old new t grows open_t) is_part (open_back old new part grows open_part)
 
@@ -60,7 +61,8 @@ passed types old new t alike here pending h u type at is out =
     ]
 
 -- it was laid out, and those that wait for it are next
-pub laid_then : (users : List (List ℕ)) (types : List IrType) (old new : List Standing) (t : ℕ) → laid old t ≡ None → ((u : ℕ) → (u ≡ t → ⊥) → laid new u ≡ laid old u)
+pub laid_then : (users : List (List ℕ)) (types : List IrType) (old new : List Standing) (t : ℕ) → laid old t ≡ None
+    → ((u : ℕ) → (u ≡ t → ⊥) → laid new u ≡ laid old u)
     → ((type : IrType) → slice_get types t ≡ Some type → laid new t ≡ None → IsBlocked new type) → AreWaiting users types old
     → (pending : List ℕ) → AreSettledBut (t ∷ pending) types old → AreSettledBut (users_of users t ++ pending) types new
 laid_then users types old new t before others here waits pending h u type at is out =
@@ -81,7 +83,8 @@ laid_then users types old new t before others here waits pending h u type at is 
     ]
 
 -- no such type is in the table
-pub absent : (types : List IrType) (ss : List Standing) (t : ℕ) → length types ≤ t → (pending : List ℕ) → AreSettledBut (t ∷ pending) types ss → AreSettledBut pending types ss
+pub absent : (types : List IrType) (ss : List Standing) (t : ℕ) → length types ≤ t → (pending : List ℕ) → AreSettledBut (t ∷ pending) types ss
+    → AreSettledBut pending types ss
 absent types ss t past pending h u type at is out =
     h u type at is (λ has. has_cases pending u t has (λ e. let inside = slice_get_within types u type at in absurd (omega arith)) out)
 
@@ -92,7 +95,8 @@ grows_by old new t before others u e is =
       | inr other ↦ others u other ∙ is
     ]
 
-pub alike_but : (old new : List Standing) (t : ℕ) → laid new t ≡ laid old t → ((u : ℕ) → (u ≡ t → ⊥) → laid new u ≡ laid old u) → (u : ℕ) → laid new u ≡ laid old u
+pub alike_but : (old new : List Standing) (t : ℕ) → laid new t ≡ laid old t → ((u : ℕ) → (u ≡ t → ⊥) → laid new u ≡ laid old u) → (u : ℕ)
+    → laid new u ≡ laid old u
 alike_but old new t here others u =
     elim (cases_eq u t) [
       | inl same ↦ rw same here
@@ -101,7 +105,8 @@ alike_but old new t here others u =
 
 -- ---- a type that is nested within bounds is laid out
 -- an extent that is there is that of the layout
-shown : (types : List IrType) (ss : List Standing) → AreSound types ss → (k t : ℕ) (l : Layout) (e : Extent) → k ≤ 64 → layout types k t ≡ Some l → laid ss t ≡ Some e → Shows l e
+shown : (types : List IrType) (ss : List Standing) → AreSound types ss → (k t : ℕ) (l : Layout) (e : Extent) → k ≤ 64 → layout types k t ≡ Some l
+    → laid ss t ≡ Some e → Shows l e
 shown types ss sound k t l e few is at =
     let from = sound t e at in
     let same : from.0 ≡ l = same_Some from.0 l (sym from.1 ∙ layout_at types k 64 t l few is) in
@@ -111,7 +116,8 @@ there : (ss : List Standing) (t : ℕ) (o : Option Extent) → laid ss t ≡ o �
 there ss t None is n = absurd (n is)
 there ss t (Some e) is n = (e, is)
 
-not_open_flat : (types : List IrType) (ss : List Standing) → AreSettledBut [] types ss → (t : ℕ) (l : Layout) → layout types zero t ≡ Some l → laid ss t ≡ None → ⊥
+not_open_flat : (types : List IrType) (ss : List Standing) → AreSettledBut [] types ss → (t : ℕ) (l : Layout) → layout types zero t ≡ Some l
+    → laid ss t ≡ None → ⊥
 not_open_flat types ss settled t l is at =
     let from = layout_flat types t l is in
     let b = settled t from.0 from.1 at (λ has. none-some t has.1) in

@@ -54,14 +54,16 @@ abbrev pub SaysExtent : List Standing → IrType → Extent → Type 0
 SaysExtent ss type e = (of : ℕ → Option Layout) → Agrees of ss → (l : Layout) × (laid_out of type ≡ Some l) × Shows l e
 
 -- an extent from sound extents is sound
-new_extent : (types : List IrType) (ss : List Standing) (t : ℕ) (type : IrType) (e : Extent) → slice_get types t ≡ Some type → AreSound types ss → SaysExtent ss type e → (l : Layout) × (layout types 64 t ≡ Some l) × Shows l e
+new_extent : (types : List IrType) (ss : List Standing) (t : ℕ) (type : IrType) (e : Extent) → slice_get types t ≡ Some type → AreSound types ss
+    → SaysExtent ss type e → (l : Layout) × (layout types 64 t ≡ Some l) × Shows l e
 new_extent types ss t type e at sound says =
     let from = says (layout types 64) sound in
     let deep : layout types (suc 64) t ≡ Some from.0 = layout_from_entry types 64 t from.0 type at from.1 in
     let few : from.0.nesting ≤ 64 = omega (arith, from.2.nesting, e.nesting_bound) in
     (from.0, layout_tight types 64 t from.0 deep few, from.2)
 
-pub sound_set : (types : List IrType) (ss : List Standing) (t : ℕ) (s : Standing) (type : IrType) → t < length ss → slice_get types t ≡ Some type → AreSound types ss → IfSome (extent_of s) (SaysExtent ss type) → AreSound types (set ss t s)
+pub sound_set : (types : List IrType) (ss : List Standing) (t : ℕ) (s : Standing) (type : IrType) → t < length ss → slice_get types t ≡ Some type
+    → AreSound types ss → IfSome (extent_of s) (SaysExtent ss type) → AreSound types (set ss t s)
 sound_set types ss t s type l at sound says u e is =
     elim (cases_eq u t) [
       | inl same ↦
@@ -71,7 +73,9 @@ sound_set types ss t s type l at sound says u e is =
       | inr other ↦ sound u e (sym (laid_other ss t s u other) ∙ is)
     ]
 
-pub blocked_set : (types : List IrType) (ss : List Standing) (t : ℕ) (s : Standing) (type : IrType) → t < length ss → slice_get types t ≡ Some type → laid ss t ≡ None → (extent_of s ≡ None → IsBlocked ss type) → (ty : IrType) → slice_get types t ≡ Some ty → laid (set ss t s) t ≡ None → IsBlocked (set ss t s) ty
+pub blocked_set : (types : List IrType) (ss : List Standing) (t : ℕ) (s : Standing) (type : IrType) → t < length ss → slice_get types t ≡ Some type
+    → laid ss t ≡ None → (extent_of s ≡ None → IsBlocked ss type) → (ty : IrType) → slice_get types t ≡ Some ty → laid (set ss t s) t ≡ None
+    → IsBlocked (set ss t s) ty
 blocked_set types ss t s type l at before says ty at' is =
     let here : extent_of s ≡ None = sym (laid_same ss t s l) ∙ is in
     subst (IsBlocked (set ss t s)) (same_Some type ty (sym at ∙ at')) (blocked_alike ss (set ss t s) type (laid_alike ss t s l here before) (says here))

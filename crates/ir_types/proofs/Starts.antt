@@ -1,5 +1,6 @@
 -- Where the fields of a struct begin.
-use Rattle.std.proofs.Common.{ℕ, zero, suc, ◌<◌, ◌≤◌, ◌^◌, ◌≡◌, refl, sym, ap, subst, ◌∙◌, arith, true, false, Bool, Option, None, Some, Ok, List, [], ◌∷◌, length, get_or, take, min}
+use Rattle.std.proofs.Common.{ℕ, zero, suc, ◌<◌, ◌≤◌, ◌^◌, ◌≡◌, refl, sym, ap, subst, ◌∙◌, arith, true, false, Bool, Option, None, Some, Ok, List, [], ◌∷◌}
+use Rattle.std.proofs.Common.{length, get_or, take, min}
 use Rattle.std.specs.Prelude.{slice_get, slice_index, IsSomeAnd, if◌then◌else◌}
 use Rattle.std.specs.Int.{next_multiple_of}
 use Rattle.std.specs.List.{fold}
@@ -26,8 +27,10 @@ end_grows packed end [] = omega arith
 end_grows packed end (l ∷ ls) = omega (arith, start_grows packed end l, end_grows packed (end_after packed end l) ls)
 
 -- a field begins after the fields before it
-starts_at : (f : ℕ → Option Layout) (packed : Bool) (end : ℕ) (ts : List ℕ) (all before : List Layout) (i : ℕ) (l : Layout) → every f ts ≡ Some all → i < length ts → every f (take i ts) ≡ Some before → f (get_or ts i 0) ≡ Some l
-    → (start_after packed (fold (end_after packed) end before) l ≡ get_or (starts_from packed end all) i 0) × (fold (end_after packed) end before ≤ fold (end_after packed) end all)
+starts_at : (f : ℕ → Option Layout) (packed : Bool) (end : ℕ) (ts : List ℕ) (all before : List Layout) (i : ℕ) (l : Layout) → every f ts ≡ Some all
+    → i < length ts → every f (take i ts) ≡ Some before → f (get_or ts i 0) ≡ Some l
+    → (start_after packed (fold (end_after packed) end before) l ≡ get_or (starts_from packed end all) i 0) ×
+    (fold (end_after packed) end before ≤ fold (end_after packed) end all)
 starts_at f packed end [] all before i l e b p at = absurd (omega arith)
 starts_at f packed end (t ∷ ts) all before zero l e b p at =
     let split = joined_some (f t) (every f ts) all e in
@@ -35,34 +38,45 @@ starts_at f packed end (t ∷ ts) all before zero l e b p at =
     let first : split.0 ≡ l = same_Some split.0 l (sym split.2 ∙ at) in
     let begin : start_after packed end l ≡ get_or (starts_from packed end (split.0 ∷ split.1)) 0 0 = ap (start_after packed end) (sym first) in
     let bound : end ≤ fold (end_after packed) end (split.0 ∷ split.1) = end_grows packed end (split.0 ∷ split.1) in
-    subst (λ (xs : List Layout). (start_after packed (fold (end_after packed) end before) l ≡ get_or (starts_from packed end xs) 0 0) × (fold (end_after packed) end before ≤ fold (end_after packed) end xs)) split.4
-    (subst (λ (xs : List Layout). (start_after packed (fold (end_after packed) end xs) l ≡ get_or (starts_from packed end (split.0 ∷ split.1)) 0 0) × (fold (end_after packed) end xs ≤ fold (end_after packed) end (split.0 ∷ split.1))) none (begin, bound))
+    subst (λ (xs : List Layout). (start_after packed (fold (end_after packed) end before) l ≡ get_or (starts_from packed end xs) 0 0) ×
+    (fold (end_after packed) end before ≤ fold (end_after packed) end xs)) split.4
+    (subst (λ (xs : List Layout). (start_after packed (fold (end_after packed) end xs) l ≡ get_or (starts_from packed end (split.0 ∷ split.1)) 0 0) ×
+    (fold (end_after packed) end xs ≤ fold (end_after packed) end (split.0 ∷ split.1))) none (begin, bound))
 starts_at f packed end (t ∷ ts) all before (suc i) l e b p at =
     let split = joined_some (f t) (every f ts) all e in
     let front = joined_some (f t) (every f (take i ts)) before p in
     let first : split.0 ≡ front.0 = same_Some split.0 front.0 (sym split.2 ∙ front.2) in
     let rest = starts_at f packed (end_after packed end split.0) ts split.1 front.1 i l split.3 (omega arith) front.3 at in
     let same : split.0 ∷ front.1 ≡ before = ap (λ (x : Layout). x ∷ front.1) first ∙ front.4 in
-    subst (λ (xs : List Layout). (start_after packed (fold (end_after packed) end before) l ≡ get_or (starts_from packed end xs) (suc i) 0) × (fold (end_after packed) end before ≤ fold (end_after packed) end xs)) split.4
-    (subst (λ (xs : List Layout). (start_after packed (fold (end_after packed) end xs) l ≡ get_or (starts_from packed end (split.0 ∷ split.1)) (suc i) 0) × (fold (end_after packed) end xs ≤ fold (end_after packed) end (split.0 ∷ split.1))) same rest)
+    subst (λ (xs : List Layout). (start_after packed (fold (end_after packed) end before) l ≡ get_or (starts_from packed end xs) (suc i) 0) ×
+    (fold (end_after packed) end before ≤ fold (end_after packed) end xs)) split.4
+    (subst (λ (xs : List Layout). (start_after packed (fold (end_after packed) end xs) l ≡ get_or (starts_from packed end (split.0 ∷ split.1)) (suc i) 0) ×
+    (fold (end_after packed) end xs ≤ fold (end_after packed) end (split.0 ∷ split.1))) same rest)
 
 padded : (packed : Bool) (ls : List Layout) → fold (end_after packed) 0 ls ≤ (struct_of packed ls).size
 padded true ls = omega arith
 padded false ls = omega arith
 
 -- the fields of a struct that has a layout
-pub fields_of : (types : List IrType) (t : ℕ) (fields : List TypeId) (packed : Bool) (l : Layout) → slice_get types t ≡ Some (Struct fields packed) → layout types 64 t ≡ Some l
+pub fields_of : (types : List IrType) (t : ℕ) (fields : List TypeId) (packed : Bool) (l : Layout) → slice_get types t ≡ Some (Struct fields packed)
+    → layout types 64 t ≡ Some l
     → (all : List Layout) × (every (layout types 64) (numbers fields) ≡ Some all) × (struct_of packed all ≡ l)
 fields_of types t fields packed l at is =
     let from = layout_entry types 63 t l is in
     let type : from.0 ≡ Struct fields packed = same_Some from.0 (Struct fields packed) (sym from.1 ∙ at) in
     let here : laid_out (layout types 63) (Struct fields packed) ≡ Some l = subst (λ (x : IrType). laid_out (layout types 63) x ≡ Some l) type from.2 in
-    let all = map_some (struct_of packed) (every (layout types 63) (numbers fields)) l here in
-    (all.0, every_along (layout types 63) (layout types 64) 0 (greatest (λ x. x.nesting) 0 all.0) (numbers fields) all.0 all.1 (omega arith) (λ u q e b. layout_more types 63 u q e), all.2)
+    let all = map_some (struct_of packed) (every (layout types 63) (numbers fields)) l here in (
+      all.0,
+      every_along (layout types 63) (layout types 64) 0 (greatest (λ x. x.nesting) 0 all.0) (numbers fields) all.0 all.1 (omega arith)
+          (λ u q e b. layout_more types 63 u q e),
+      all.2,
+    )
 
 -- what the code computes for a field
-pub start_is : (types : List IrType) (t i start : ℕ) (fields : List TypeId) (packed : Bool) (l : Layout) → slice_get types t ≡ Some (Struct fields packed) → layout types 64 t ≡ Some l → l.size ≤ 2 ^ 40 → i < length (numbers fields)
-    → (before : List Layout) (field : Layout) → every (layout types 64) (take i (numbers fields)) ≡ Some before → layout types 64 (get_or (numbers fields) i 0) ≡ Some field
+pub start_is : (types : List IrType) (t i start : ℕ) (fields : List TypeId) (packed : Bool) (l : Layout) → slice_get types t ≡ Some (Struct fields packed)
+    → layout types 64 t ≡ Some l → l.size ≤ 2 ^ 40 → i < length (numbers fields)
+    → (before : List Layout) (field : Layout) → every (layout types 64) (take i (numbers fields)) ≡ Some before
+    → layout types 64 (get_or (numbers fields) i 0) ≡ Some field
     → start ≡ start_after packed (min (fold (end_after packed) 0 before) ceiling) field → start ≡ get_or l.starts i 0
 start_is types t i start fields packed l at is small inside before field front here e =
     let all = fields_of types t fields packed l at is in
@@ -73,10 +87,12 @@ start_is types t i start fields packed l at is small inside before field front h
     e ∙ ap (λ (n : ℕ). start_after packed n field) exact ∙ from.0 ∙ ap (λ (x : Layout). get_or x.starts i 0) all.2
 
 -- no field of a struct that has a layout is missing
-pub not_blocked : (types : List IrType) (ss : List Standing) (t : ℕ) (type : IrType) (l : Layout) → AreSound types ss → AreSettledBut [] types ss → slice_get types t ≡ Some type → layout types 64 t ≡ Some l → IsBlocked ss type → ⊥
+pub not_blocked : (types : List IrType) (ss : List Standing) (t : ℕ) (type : IrType) (l : Layout) → AreSound types ss → AreSettledBut [] types ss
+    → slice_get types t ≡ Some type → layout types 64 t ≡ Some l → IsBlocked ss type → ⊥
 not_blocked types ss t type l sound settled at is b =
     let from = layout_entry types 63 t l is in
-    let here : laid_out (layout types 63) type ≡ Some l = subst (λ (x : IrType). laid_out (layout types 63) x ≡ Some l) (same_Some from.0 type (sym from.1 ∙ at)) from.2 in
+    let here : laid_out (layout types 63) type ≡ Some l = subst (λ (x : IrType). laid_out (layout types 63) x ≡ Some l)
+    (same_Some from.0 type (sym from.1 ∙ at)) from.2 in
     let part = laid_out_part (layout types 63) type l b.part here b.is_part in
     let kept = laid_if_finite types ss sound settled 63 b.part part.0 (omega arith) part.1 in
     omega (arith, b.deep kept.0 kept.1, kept.2.nesting, layout_depth types 63 b.part part.0 part.1)
@@ -99,7 +115,8 @@ length_numbers : (fields : List TypeId) → length (numbers fields) ≡ length f
 length_numbers [] = refl
 length_numbers (x ∷ xs) = ap suc (length_numbers xs)
 
-pub start_like : (packed : Bool) (end end' align align' : ℕ) → end ≡ end' → align ≡ align' → (if packed then end else next_multiple_of end align) ≡ (if packed then end' else next_multiple_of end' align')
+pub start_like : (packed : Bool) (end end' align align' : ℕ) → end ≡ end' → align ≡ align'
+    → (if packed then end else next_multiple_of end align) ≡ (if packed then end' else next_multiple_of end' align')
 start_like packed end end' align align' e f = rw (e, f)
 
 -- the type that a query of a field is asked of
@@ -110,8 +127,10 @@ asked types t P h = go (slice_get types t) refl h
     go None e a = absurd a
     go (Some type) e a = (type, e, a)
 
-pub field_is : (types : List IrType) (ss : List Standing) (t i start : ℕ) (fields : List TypeId) (packed : Bool) (e : Extent) → AreSound types ss → slice_get types t ≡ Some (Struct fields packed) → i < length fields → IsJudged (layout types 64 t) (Ok e)
-    → ((of : ℕ → Option Layout) → Agrees of ss → (ls : List Layout) × (l : Layout) × (every of (numbers (take i fields)) ≡ Some ls) × (of (slice_index (numbers fields) i) ≡ Some l) × (start ≡ start_after packed (min (fold (end_after packed) 0 ls) ceiling) l))
+pub field_is : (types : List IrType) (ss : List Standing) (t i start : ℕ) (fields : List TypeId) (packed : Bool) (e : Extent) → AreSound types ss
+    → slice_get types t ≡ Some (Struct fields packed) → i < length fields → IsJudged (layout types 64 t) (Ok e)
+    → ((of : ℕ → Option Layout) → Agrees of ss → (ls : List Layout) × (l : Layout) × (every of (numbers (take i fields)) ≡ Some ls) ×
+    (of (slice_index (numbers fields) i) ≡ Some l) × (start ≡ start_after packed (min (fold (end_after packed) 0 ls) ceiling) l))
     → Ok start ≡ field_start types t i
 field_is types ss t i start fields packed e sound at inside judged says =
     let w = says (layout types 64) sound in

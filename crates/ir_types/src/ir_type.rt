@@ -6,7 +6,7 @@ use attr_ids::{Sequence, TypeId};
 pub type TypeList = Sequence<TypeId>;
 
 /// A type of the IR (LLVM LangRef, "Type System"), with its parts by number.
-#[derive(Debug, Drop)]
+#[derive(Drop)]
 pub enum IrType {
     Void,
     Int { width: u8 },

@@ -19,8 +19,6 @@ mod placing;
 mod refusal;
 mod standing;
 mod table;
-#[cfg(test)]
-mod tests;
 mod users;
 mod visit;
 

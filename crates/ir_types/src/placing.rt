@@ -8,7 +8,7 @@ pub const MAX_SIZE: u64 = 1 << 40;
 
 /// Fields of a struct that are placed one after the other: where they end, and the greatest of their
 /// alignments and nestings.
-#[derive(Clone, Copy, Debug)]
+#[derive(Clone, Copy)]
 pub struct Placing {
     pub end: u64,
     pub align: u64,

@@ -2,7 +2,7 @@ ghost use Rattle.std.specs.Prelude.{◌≡◌, ◌≤◌, ◌+◌, ◌^◌};
 
 /// The size in bytes, the alignment and the nesting of a type. A size from 2^40 + 1 on is kept as
 /// this number.
-#[derive(Clone, Copy, Debug, PartialEq, Eq)]
+#[derive(Clone, Copy)]
 pub struct Extent {
     pub size: u64,
     pub align: u64,
@@ -16,7 +16,7 @@ pub struct Extent {
 
 /// What a table keeps of a type: that its first `known` parts are laid out and not too deep to be
 /// parts, or its extent.
-#[derive(Clone, Copy, Debug, PartialEq, Eq)]
+#[derive(Clone, Copy)]
 pub enum Standing {
     Waiting { known: usize },
     Laid(Extent),

@@ -33,7 +33,7 @@ fn push_waiting(
 }
 
 /// The types of a module by their numbers, which contracts see as the list of them.
-#[derive(Debug, Drop)]
+#[derive(Drop)]
 pub struct TypeTable {
     types: Vec<IrType>,
     standings: Vec<Standing>,

@@ -1,5 +1,6 @@
 -- Lists of uses that grow in text order.
-use Rattle.std.proofs.Common.{◌≡◌, ◌+◌, ◌^◌, ◌<◌, ◌≤◌, ◌⊎◌, inl, inr, ℕ, zero, suc, length, slice_get, slice_set, List, [], ◌∷◌, ◌++◌, Some, arith, refl, subst, sym, ap, ◌∙◌, ⊎_elim}
+use Rattle.std.proofs.Common.{◌≡◌, ◌+◌, ◌^◌, ◌<◌, ◌≤◌, ◌⊎◌, inl, inr, ℕ, zero, suc, length, slice_get, slice_set, List, [], ◌∷◌, ◌++◌, Some, arith, refl}
+use Rattle.std.proofs.Common.{subst, sym, ap, ◌∙◌, ⊎_elim}
 use Rattle.std.proofs.lemmas.Option.{slice_get_within}
 use Rattle.std.proofs.lemmas.Bool.{cases_eq, cases_lt}
 use Rattle.ir_types.proofs.Standings.{get_set_same, get_set_other}
@@ -9,9 +10,10 @@ use Rattle.ir_module.specs.declared.op.Written.{Written}
 use Rattle.ir_module.specs.declared.op.Instr.{Instr}
 use Rattle.ir_module.specs.declared.module.Seg.{Seg}
 use Rattle.ir_module.specs.declared.module.Module.{Module}
-use Rattle.ir_module.specs.Places.{Spot, instr_at}
+use Rattle.ir_module.specs.declared.module.Spot.{Spot}
+use Rattle.ir_module.specs.Places.{spot, instr_at}
 use Rattle.ir_module.specs.Operands.{operands}
-use Rattle.ir_module.specs.Formed.{HasFew}
+use Rattle.ir_module.specs.WellFormed.{HasFew}
 use Rattle.ir_module.proofs.Spots.{stands}
 use Rattle.ir_module.proofs.Runs.{there}
 use Rattle.ir_uses.specs.declared.lists.Use.{Use}
@@ -39,21 +41,22 @@ get_cases (z ∷ xs) x y (suc k) h = elim (get_cases xs x y k h) [ inl e ↦ inl
 
 -- ---- the order of uses
 
-pub same_use : (a b : Use) → a.seg.0 ≡ b.seg.0 → a.index ≡ b.index → a.operand ≡ b.operand → a ≡ b
-same_use a b s i o = ap (λ (x : ℕ). use_at x a.index a.operand) s ∙ ap (λ (x : ℕ). use_at b.seg.0 x a.operand) i ∙ ap (λ (x : ℕ). use_at b.seg.0 b.index x) o
+pub same_use : (a b : Use) → a.spot.seg.0 ≡ b.spot.seg.0 → a.spot.at ≡ b.spot.at → a.operand ≡ b.operand → a ≡ b
+same_use a b s i o = ap (λ (x : ℕ). use_at x a.spot.at a.operand) s ∙ ap (λ (x : ℕ). use_at b.spot.seg.0 x a.operand) i ∙ ap
+    (λ (x : ℕ). use_at b.spot.seg.0 b.spot.at x) o
 
 -- what is written before the next operand is written before this one, or is it
 pub before_next : (u : Use) (s i j : ℕ) → IsBefore u (use_at s i (j + 1)) → IsBefore u (use_at s i j) ⊎ (u ≡ use_at s i j)
 before_next u s i j b =
-    elim (cases_lt u.seg.0 s) [
+    elim (cases_lt u.spot.seg.0 s) [
       | inl l ↦ inl (omega arith, λ e. absurd (omega arith), λ e f. absurd (omega arith))
-      | inr g ↦ elim (cases_lt u.index i) [
+      | inr g ↦ elim (cases_lt u.spot.at i) [
         | inl l ↦ inl (omega (arith, b.0), λ e. omega arith, λ e f. absurd (omega arith))
         | inr k ↦ elim (cases_lt u.operand j) [
           | inl l ↦ inl (omega (arith, b.0), λ e. b.1 e, λ e f. l)
           | inr h ↦
-              let es : u.seg.0 ≡ s = omega (arith, b.0) in
-              let ei : u.index ≡ i = omega (arith, b.1 es) in
+              let es : u.spot.seg.0 ≡ s = omega (arith, b.0) in
+              let ei : u.spot.at ≡ i = omega (arith, b.1 es) in
               let eo : u.operand ≡ j = omega (arith, b.2 es ei) in
               inr (same_use u (use_at s i j) es ei eo)
         ]
@@ -69,7 +72,8 @@ itself_before_next s i j = (omega arith, λ e. omega arith, λ e f. omega arith)
 -- ---- one operand more
 
 -- the list of a value that is not the operand here
-pub passed : (m : Module) (s i j v : ℕ) (us : List Use) → IsUseListTo m (use_at s i j) v us → (IsUseAt m v (use_at s i j) → ⊥) → IsUseListTo m (use_at s i (j + 1)) v us
+pub passed : (m : Module) (s i j v : ℕ) (us : List Use) → IsUseListTo m (use_at s i j) v us → (IsUseAt m v (use_at s i j) → ⊥)
+    → IsUseListTo m (use_at s i (j + 1)) v us
 passed m s i j v us l n = record {
   each = l.each;
   before = λ k u e. next_of_before u s i j (l.before k u e);
@@ -121,7 +125,7 @@ none_so_far m lists h v l = (
   record {
     each = λ k u e. (cc);
     before = λ k u e. (cc);
-    all = λ u at b. let e : u.seg.0 ≡ 0 = omega (arith, b.0) in let f : u.index ≡ 0 = omega (arith, b.1 e) in absurd (omega (arith, b.2 e f));
+    all = λ u at b. let e : u.spot.seg.0 ≡ 0 = omega (arith, b.0) in let f : u.spot.at ≡ 0 = omega (arith, b.1 e) in absurd (omega (arith, b.2 e f));
     order = λ i k a b less ea eb. (cc);
   },
 )
@@ -139,7 +143,8 @@ pub one_value : (m : Module) (v w : ℕ) (u : Use) → IsUseAt m v u → IsUseAt
 one_value m v w u a b =
     let ea = a.at_spot in let eb = b.at_spot in
     let same : a.instr ≡ b.instr = cc in
-    let oa : slice_get (operands b.instr.op) u.operand ≡ Some a.written = subst (λ (x : Instr). slice_get (operands x.op) u.operand ≡ Some a.written) same a.is_operand in
+    let oa : slice_get (operands b.instr.op) u.operand ≡ Some a.written = subst
+    (λ (x : Instr). slice_get (operands x.op) u.operand ≡ Some a.written) same a.is_operand in
     let ob = b.is_operand in
     let written : a.written ≡ b.written = cc in
     let va : b.written.val ≡ operand.Value (value_id v) = subst (λ (x : Written). x.val ≡ operand.Value (value_id v)) written a.is_value in
@@ -156,11 +161,20 @@ noted_in m s i j w old new us h at found e v l =
       | inl same ↦
           (let there : slice_get old w ≡ Some p.0 = subst (λ (x : ℕ). slice_get old x ≡ Some p.0) same here in
           let one : p.0 ≡ us = cc in
-          let known : IsUseListTo m (use_at s i j) w us = subst (λ (x : List Use). IsUseListTo m (use_at s i j) w x) one (subst (λ (x : ℕ). IsUseListTo m (use_at s i j) x p.0) same p.2) in
-          subst (λ (x : ℕ). (xs : List Use) × (slice_get new x ≡ Some xs) × IsUseListTo m (use_at s i (j + 1)) x xs) (sym same)
-          (us ++ use_at s i j ∷ [], ap (λ (xs : List (List Use)). slice_get xs w) e ∙ get_set_same old w (us ++ use_at s i j ∷ []) (slice_get_within old w us found), pushed m s i j w us known at))
-      | inr other ↦
-          (p.0, ap (λ (xs : List (List Use)). slice_get xs v) e ∙ get_set_other old w v (us ++ use_at s i j ∷ []) other ∙ p.1, passed m s i j v p.0 p.2 (λ a. other (one_value m v w (use_at s i j) a at)))
+          let known : IsUseListTo m (use_at s i j) w us = subst (λ (x : List Use). IsUseListTo m (use_at s i j) w x) one
+          (subst (λ (x : ℕ). IsUseListTo m (use_at s i j) x p.0) same p.2) in
+          subst (λ (x : ℕ). (xs : List Use) × (slice_get new x ≡ Some xs) × IsUseListTo m (use_at s i (j + 1)) x xs) (sym same) (
+            us ++ use_at s i j ∷ [],
+            ap (λ (xs : List (List Use)). slice_get xs w) e ∙ get_set_same old w (us ++ use_at s i j ∷ [])
+                (slice_get_within old w us found),
+            pushed m s i j w us known at,
+          ))
+      | inr other ↦ (
+        p.0,
+        ap (λ (xs : List (List Use)). slice_get xs v) e ∙ get_set_other old w v (us ++ use_at s i j ∷ []) other ∙ p.1,
+        passed m s i j v p.0 p.2
+            (λ a. other (one_value m v w (use_at s i j) a at)),
+      )
     ]
 
 -- a value that has no list is none of the module's
@@ -172,7 +186,8 @@ noted_out m s i j w old h at past v l =
     (p.0, p.1, passed m s i j v p.0 p.2 (λ a. let e : v ≡ w = one_value m v w (use_at s i j) a at in omega (arith, e, past, within)))
 
 pub noted_all : (m : Module) (s i j w : ℕ) (old new : List (List Use)) → AreUseListsTo m (use_at s i j) old → IsUseAt m w (use_at s i j)
-    → (length old ≤ w → new ≡ old) → ((us : List Use) → slice_get old w ≡ Some us → new ≡ slice_set old w (us ++ use_at s i j ∷ [])) → AreUseListsTo m (use_at s i (j + 1)) new
+    → (length old ≤ w → new ≡ old) → ((us : List Use) → slice_get old w ≡ Some us → new ≡ slice_set old w (us ++ use_at s i j ∷ []))
+    → AreUseListsTo m (use_at s i (j + 1)) new
 noted_all m s i j w old new h at out set = elim (cases_lt w (length old)) [
   | inl inside ↦ (let q = there old w inside in noted_in m s i j w old new q.0 h at q.1 (set q.0 q.1))
   | inr past ↦ subst (λ (xs : List (List Use)). AreUseListsTo m (use_at s i (j + 1)) xs) (sym (out past)) (noted_out m s i j w old h at past)
@@ -183,14 +198,16 @@ noted_all m s i j w old new h at out set = elim (cases_lt w (length old)) [
 pub behind_instr : (u : Use) (s i j : ℕ) → IsBefore u (use_at s i j) → IsBefore u (use_at s (i + 1) 0)
 behind_instr u s i j b = (b.0, λ e. omega (arith, b.1 e), λ e f. absurd (omega (arith, b.1 e)))
 
-pub of_instr : (m : Module) (s i v : ℕ) (instr : Instr) (u : Use) → instr_at m (record { seg = s; at = i }) ≡ Some instr → IsUseAt m v u
+pub of_instr : (m : Module) (s i v : ℕ) (instr : Instr) (u : Use) → instr_at m (spot s i) ≡ Some instr → IsUseAt m v u
     → IsBefore u (use_at s (i + 1) 0) → IsBefore u (use_at s i (length (operands instr.op)))
 of_instr m s i v instr u here at b =
-    let index : (u.seg.0 ≡ s → u.index ≤ i) = λ e. ⊎_elim (λ (l : u.index < i + 1). omega (arith, l)) (λ (g : i + 1 ≤ u.index). absurd (omega (arith, b.1 e, b.2 e (omega (arith, g, b.1 e))))) (cases_lt u.index (i + 1)) in (
+    let index : (u.spot.seg.0 ≡ s → u.spot.at ≤ i) = λ e. ⊎_elim (λ (l : u.spot.at < i + 1). omega (arith, l))
+    (λ (g : i + 1 ≤ u.spot.at). absurd (omega (arith, b.1 e, b.2 e (omega (arith, g, b.1 e))))) (cases_lt u.spot.at (i + 1)) in (
       b.0,
       index,
       λ e f.
-          let same : instr_at m (record { seg = s; at = i }) ≡ Some at.instr = subst (λ (x : ℕ). instr_at m (record { seg = x; at = i }) ≡ Some at.instr) e (subst (λ (x : ℕ). instr_at m (record { seg = u.seg.0; at = x }) ≡ Some at.instr) f at.at_spot) in
+          let same : instr_at m (spot s i) ≡ Some at.instr = subst (λ (x : ℕ). instr_at m (spot x i) ≡ Some at.instr) e
+          (subst (λ (x : ℕ). instr_at m (spot u.spot.seg.0 x) ≡ Some at.instr) f at.at_spot) in
           let one : at.instr ≡ instr = cc in
           let inside : u.operand < length (operands at.instr.op) = slice_get_within (operands at.instr.op) u.operand at.written at.is_operand in
           subst (λ (x : Instr). u.operand < length (operands x.op)) one inside,
@@ -202,25 +219,25 @@ behind_seg u s i b = (omega (arith, b.0), λ e. absurd (omega (arith, b.0, e)), 
 pub of_seg : (m : Module) (s v : ℕ) (seg : Seg) (u : Use) → slice_get m.segs s ≡ Some seg → IsUseAt m v u
     → IsBefore u (use_at (s + 1) 0 0) → IsBefore u (use_at s (length seg.instrs) 0)
 of_seg m s v seg u here at b =
-    let first : u.seg.0 ≤ s = ⊎_elim (λ (l : u.seg.0 < s + 1). omega (arith, l)) (λ (g : s + 1 ≤ u.seg.0).
-    let e : u.seg.0 ≡ s + 1 = omega (arith, g, b.0) in
-    let f : u.index ≡ 0 = omega (arith, b.1 e) in
-    absurd (omega (arith, b.2 e f))) (cases_lt u.seg.0 (s + 1)) in
-    let home = stands m (record { seg = u.seg.0; at = u.index }) at.instr at.at_spot in
-    let inside : (u.seg.0 ≡ s → u.index < length seg.instrs) = λ e.
-    (let there : slice_get m.segs u.seg.0 ≡ Some home.seg = home.at_seg in
+    let first : u.spot.seg.0 ≤ s = ⊎_elim (λ (l : u.spot.seg.0 < s + 1). omega (arith, l)) (λ (g : s + 1 ≤ u.spot.seg.0).
+    let e : u.spot.seg.0 ≡ s + 1 = omega (arith, g, b.0) in
+    let f : u.spot.at ≡ 0 = omega (arith, b.1 e) in
+    absurd (omega (arith, b.2 e f))) (cases_lt u.spot.seg.0 (s + 1)) in
+    let home = stands m u.spot at.instr at.at_spot in
+    let inside : (u.spot.seg.0 ≡ s → u.spot.at < length seg.instrs) = λ e.
+    (let there : slice_get m.segs u.spot.seg.0 ≡ Some home.seg = home.at_seg in
     let one : home.seg ≡ seg = cc in
-    subst (λ (x : Seg). u.index < length x.instrs) one home.within) in
+    subst (λ (x : Seg). u.spot.at < length x.instrs) one home.within) in
     (first, λ e. omega (arith, inside e), λ e f. absurd (omega (arith, inside e, f)))
 
 pub in_module : (m : Module) (v : ℕ) (u : Use) → IsUseAt m v u → IsBefore u (use_at (length m.segs) 0 0)
 in_module m v u at =
-    let home = stands m (record { seg = u.seg.0; at = u.index }) at.instr at.at_spot in
-    let inside : u.seg.0 < length m.segs = slice_get_within m.segs u.seg.0 home.seg home.at_seg in
+    let home = stands m u.spot at.instr at.at_spot in
+    let inside : u.spot.seg.0 < length m.segs = slice_get_within m.segs u.spot.seg.0 home.seg home.at_seg in
     (omega (arith, inside), λ e. absurd (omega (arith, inside, e)), λ e f. absurd (omega (arith, inside, e)))
 
 -- past its last operand nothing of an instruction is left
-pub next_instr : (m : Module) (s i : ℕ) (instr : Instr) (lists : List (List Use)) → instr_at m (record { seg = s; at = i }) ≡ Some instr
+pub next_instr : (m : Module) (s i : ℕ) (instr : Instr) (lists : List (List Use)) → instr_at m (spot s i) ≡ Some instr
     → AreUseListsTo m (use_at s i (length (operands instr.op))) lists → AreUseListsTo m (use_at s (i + 1) 0) lists
 next_instr m s i instr lists here h v l = let q = h v l in (
   q.0,
@@ -261,10 +278,10 @@ all_uses m lists h v l = let q = h v l in (
 -- ---- what the module's size adds
 
 pub few_operands : (m : Module) (s : Spot) (instr : Instr) → HasFew m → instr_at m s ≡ Some instr → length (operands instr.op) < 2 ^ 31
-few_operands m s instr few h = let q = stands m s instr h in few.operands s.seg s.at q.seg instr q.at_seg q.at_place
+few_operands m s instr few h = let q = stands m s instr h in (few.each s.seg.0 q.seg q.at_seg).1 s.at instr q.at_place
 
 -- an operand that is no value is no use
-pub no_use : (m : Module) (s i j : ℕ) (instr : Instr) → instr_at m (record { seg = s; at = i }) ≡ Some instr
+pub no_use : (m : Module) (s i j : ℕ) (instr : Instr) → instr_at m (spot s i) ≡ Some instr
     → ((o : Written) (v : ValueId) → slice_get (operands instr.op) j ≡ Some o → o.val ≡ operand.Value v → ⊥) → (v : ℕ) → IsUseAt m v (use_at s i j) → ⊥
 no_use m s i j instr found none v at =
     let there = at.at_spot in

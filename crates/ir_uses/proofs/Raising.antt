@@ -1,5 +1,6 @@
 -- Flags that are raised one after another.
-use Rattle.std.proofs.Common.{◌≡◌, ◌+◌, ◌<◌, ◌≤◌, ◌++◌, ◌∷◌, ◌||◌, drop, subst, arith, inl, inr, ◌∙◌, ℕ, length, slice_get, slice_set, take, get_or, List, [], Bool, true, false, Option, None, Some, refl, sym, ap}
+use Rattle.std.proofs.Common.{◌≡◌, ◌+◌, ◌<◌, ◌≤◌, ◌++◌, ◌∷◌, ◌||◌, drop, subst, arith, inl, inr, ◌∙◌, ℕ, length, slice_get, slice_set, take, get_or, List}
+use Rattle.std.proofs.Common.{[], Bool, true, false, Option, None, Some, refl, sym, ap}
 use Rattle.std.specs.List.{list_any}
 use Rattle.std.specs.Option.{option_map}
 use Rattle.std.proofs.lemmas.List.{take_more, drop-append-le, length-take-le}
@@ -44,7 +45,8 @@ unraised flags p none f = map_same (λ b. b || p f) (λ b. ap (λ (x : Bool). b 
 
 -- one step after another
 pub raised_twice : (old mid new : List Bool) (p q r : ℕ → Bool) → Raises old mid p → Raises mid new q → ((f : ℕ) → r f ≡ (p f || q f)) → Raises old new r
-raised_twice old mid new p q r h k e f = k f ∙ ap (λ (o : Option Bool). option_map (λ b. b || q f) o) (h f) ∙ map_twice (p f) (q f) (r f) (slice_get old f) (e f)
+raised_twice old mid new p q r h k e f = k f ∙ ap (λ (o : Option Bool). option_map (λ b. b || q f) o) (h f) ∙ map_twice (p f) (q f) (r f) (slice_get old f)
+    (e f)
 
 -- one element more of a list
 pub raised_more : {X : Type 0} → (old mid new : List Bool) (t : ℕ → X → Bool) (xs : List X) (i : ℕ) (d : X) → i < length xs
@@ -59,8 +61,10 @@ pub raised_item : {X : Type 0} → (old mid new : List Bool) (t : ℕ → X → 
 raised_item {X} old mid new t xs i x l e h k = raised_more old mid new t xs i x l h (subst (λ (y : X). Raises mid new (λ f. t f y)) e k)
 
 -- the same of a list without its first elements
-pub raised_from : {X : Type 0} → (old mid new : List Bool) (t : ℕ → X → Bool) (xs : List X) (first i : ℕ) (x : X) → first ≤ i → i < length xs → slice_get xs i ≡ Some x
-    → Raises old mid (λ f. list_any (t f) (drop first (take i xs))) → Raises mid new (λ f. t f x) → Raises old new (λ f. list_any (t f) (drop first (take (i + 1) xs)))
+pub raised_from : {X : Type 0} → (old mid new : List Bool) (t : ℕ → X → Bool) (xs : List X) (first i : ℕ) (x : X) → first ≤ i → i < length xs
+    → slice_get xs i ≡ Some x
+    → Raises old mid (λ f. list_any (t f) (drop first (take i xs))) → Raises mid new (λ f. t f x)
+    → Raises old new (λ f. list_any (t f) (drop first (take (i + 1) xs)))
 raised_from {X} old mid new t xs first i x low l e h k =
     raised_twice old mid new (λ f. list_any (t f) (drop first (take i xs))) (λ f. t f x) (λ f. list_any (t f) (drop first (take (i + 1) xs))) h k
     (λ f. any_from (t f) xs first i x low l e)
@@ -78,7 +82,8 @@ pub none_settled : (funcs : List Func) (old : List Bool) → IsSettled funcs old
 none_settled funcs old = record { long = refl; first = λ f func taken l. absurd (omega (arith, l)); others = λ f l. refl }
 
 pub settled_more : (funcs : List Func) (old new : List Bool) (count : ℕ) (func : Func) (taken : Bool) → IsSettled funcs old new count → count < length new
-    → slice_get funcs count ≡ Some func → slice_get new count ≡ Some taken → IsSettled funcs old (slice_set new count (is_open_in taken (Some func))) (count + 1)
+    → slice_get funcs count ≡ Some func → slice_get new count ≡ Some taken
+    → IsSettled funcs old (slice_set new count (is_open_in taken (Some func))) (count + 1)
 settled_more funcs old new count func taken h inside here now = record {
   long = length-set new count (is_open_in taken (Some func)) ∙ h.long;
   first = λ f g b l e k. elim (cases_eq f count) [
@@ -88,7 +93,8 @@ settled_more funcs old new count func taken h inside here now = record {
         let one : g ≡ func = cc in
         let two : b ≡ taken = cc in
         subst (λ (x : ℕ). slice_get (slice_set new count (is_open_in taken (Some func))) x ≡ Some (is_open_in b (Some g))) (sym same)
-        (get_set_same new count (is_open_in taken (Some func)) inside ∙ ap (λ (x : Bool). Some (is_open_in x (Some func))) (sym two) ∙ ap (λ (x : Func). Some (is_open_in b (Some x))) (sym one)))
+        (get_set_same new count (is_open_in taken (Some func)) inside ∙ ap (λ (x : Bool). Some (is_open_in x (Some func))) (sym two) ∙ ap
+        (λ (x : Func). Some (is_open_in b (Some x))) (sym one)))
     | inr other ↦ (let before : f < count = omega arith in
         get_set_other new count f (is_open_in taken (Some func)) other ∙ h.first f g b before e k)
   ];

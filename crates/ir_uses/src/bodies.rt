@@ -1,6 +1,6 @@
 //! Which bodies the outside may enter.
 ghost use Rattle.std.specs.Prelude.{◌≡◌, ◌<◌, ℕ, Bool, false, length, slice_get, Some, IfOk};
-ghost use Rattle.ir_module.specs.Formed.{HasFew};
+ghost use Rattle.ir_module.specs.WellFormed.{HasFew};
 ghost use Rattle.ir_module.specs.declared.module.Func.{Func};
 ghost use Rattle.ir_module.specs.Calls.{is_open, is_open_in};
 

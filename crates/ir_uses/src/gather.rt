@@ -1,5 +1,5 @@
 ghost use Rattle.std.specs.Prelude.{IfOk};
-ghost use Rattle.ir_module.specs.Formed.{HasFew};
+ghost use Rattle.ir_module.specs.WellFormed.{HasFew};
 ghost use Rattle.ir_uses.specs.Uses.{AreUsesOf};
 
 use crate::bodies::open_bodies;

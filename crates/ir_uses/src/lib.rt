@@ -8,11 +8,9 @@ mod callers;
 mod gather;
 mod lists;
 mod taken;
-#[cfg(test)]
-mod tests;
 mod use_lists;
 mod values;
 
 pub use gather::uses;
-pub use lists::{CallSite, Use};
+pub use lists::Use;
 pub use use_lists::Uses;

@@ -1,11 +1,10 @@
 //! Which functions have their address taken.
 ghost use Rattle.std.specs.Prelude.{◌≡◌, ◌==◌, ◌<◌, ◌^◌, ℕ, Bool, false, drop, length, slice_get, Some, IfSome, IfNone, IsSome};
 ghost use Rattle.std.specs.List.{list_any};
-ghost use Rattle.ir_module.specs.Formed.{HasFew};
+ghost use Rattle.ir_module.specs.WellFormed.{Each, IsShort, HasFew};
 ghost use Rattle.ir_module.specs.Operands.{optional, operands};
 ghost use Rattle.ir_module.specs.Calls.{names, takers, is_taken, is_taken_by};
 ghost use Rattle.ir_uses.specs.Raised.{Raises};
-ghost use Rattle.ir_module.specs.declared.op.Instr.{Instr};
 
 use attr_ids::FuncId;
 use ir_module::{Func, GlobalVar, Instr, Module, Op, Operand, Seg, Symbol, Written, direct_callee};
@@ -86,7 +85,7 @@ fn first_taker(m: &Module, op: &Op) -> usize
 /// Raises the flags of the functions whose addresses an instruction takes: all whose names stand in its operands, but
 /// the callee of a direct call.
 fn mark_instr(m: &Module, flags: &mut [bool], instr: &Instr)
-    requires { length (operands instr.now.op) < 2 ^ 31 }
+    requires { IsShort 0 instr.now }
     ensures { Raises flags.old flags.new (λ f. list_any (names f) (takers m.now instr.now.op)) }
 {
     let first = first_taker(m, &instr.op);
@@ -99,7 +98,7 @@ fn mark_instr(m: &Module, flags: &mut [bool], instr: &Instr)
 
 /// Raises the flags of the functions whose addresses are taken in a segment.
 fn mark_seg(m: &Module, flags: &mut [bool], seg: &Seg)
-    requires { (i : ℕ) (instr : Instr) → slice_get seg.now.instrs i ≡ Some instr → length (operands instr.op) < 2 ^ 31 }
+    requires { Each seg.now.instrs IsShort }
     ensures { Raises flags.old flags.new (λ f. is_taken_by m.now f seg.now) }
 {
     for instr in seg.instrs.as_slice() {

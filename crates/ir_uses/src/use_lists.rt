@@ -1,14 +1,15 @@
 ghost use Rattle.std.specs.Prelude.{◌≡◌, ◌<◌, length, slice_get, Some};
 
-use crate::lists::{CallSite, Use};
+use crate::lists::Use;
 use attr_ids::{FuncId, Sequence, ValueId};
+use ir_module::Spot;
 use row_lists::Rows;
 
 /// The use lists of a module.
-#[derive(Debug, Drop)]
+#[derive(Drop)]
 pub struct Uses {
     pub(crate) values: Rows<Use>,
-    pub(crate) callers: Rows<CallSite>,
+    pub(crate) callers: Rows<Spot>,
     /// For each function, whether it is an open body.
     pub(crate) bodies: Sequence<bool>,
 }
@@ -22,8 +23,8 @@ impl Uses {
         self.values.get(v.0 as usize)
     }
 
-    /// The direct calls of a function, each once and in text order.
-    pub fn callers(&self, f: FuncId) -> &[CallSite]
+    /// Where a function is called directly, each call once and in text order.
+    pub fn callers(&self, f: FuncId) -> &[Spot]
         requires { f.0 < length self.now.callers }
         ensures { slice_get self.now.callers f.0 ≡ Some result.now }
     {

@@ -1,6 +1,6 @@
 //! The uses of values, gathered in text order.
 ghost use Rattle.std.specs.Prelude.{◌≡◌, ◌+◌, ◌<◌, ◌≤◌, ℕ, List, [], ◌∷◌, ◌++◌, length, slice_get, slice_set, Some, OnOk, IfOk, IfSome, IfNone, IsSome, IsSomeAnd};
-ghost use Rattle.ir_module.specs.Formed.{HasFew};
+ghost use Rattle.ir_module.specs.WellFormed.{HasFew};
 ghost use Rattle.ir_module.specs.Places.{instr_at};
 ghost use Rattle.ir_module.specs.Operands.{operands};
 ghost use Rattle.ir_module.specs.declared.op.Written.{Written};
@@ -9,7 +9,7 @@ ghost use Rattle.ir_uses.specs.Uses.{IsUseList};
 
 use crate::lists::Use;
 use attr_ids::{NoMemory, SegId, ValueId};
-use ir_module::{Module, Op, Operand, Seg, instr_at};
+use ir_module::{Module, Op, Operand, Seg, Spot, instr_at};
 use row_lists::Rows;
 use std::alloc::Global;
 
@@ -36,23 +36,18 @@ fn value_at(op: &Op, at: usize) -> Option<ValueId>
 }
 
 /// Notes the values that are operands of an instruction.
-fn note_operands(m: &Module, lists: &mut Rows<Use>, seg: SegId, index: u32) -> Result<(), NoMemory>
+fn note_operands(m: &Module, lists: &mut Rows<Use>, spot: Spot) -> Result<(), NoMemory>
     requires few { HasFew m.now }
-    requires there { IsSome (instr_at m.now (record { seg = seg.0; at = index })) }
-    requires lists { AreUseListsTo m.now (use_at seg.0 index 0) lists.old }
-    ensures { OnOk result (AreUseListsTo m.now (use_at seg.0 (index + 1) 0) lists.new) }
+    requires there { IsSome (instr_at m.now spot) }
+    requires lists { AreUseListsTo m.now (use_at spot.seg.0 spot.at 0) lists.old }
+    ensures { OnOk result (AreUseListsTo m.now (use_at spot.seg.0 (spot.at + 1) 0) lists.new) }
 {
-    let Some(instr) = instr_at(m, seg, index) else {
+    let Some(instr) = instr_at(m, spot) else {
         unreachable!()
     };
     for operand in 0..instr.op.operand_count() as u32 {
         if let Some(v) = value_at(&instr.op, operand as usize) {
-            let here = Use {
-                seg,
-                index,
-                operand,
-            };
-            note(lists, v.0 as usize, here)?;
+            note(lists, v.0 as usize, Use { spot, operand })?;
         }
     }
     Ok(())
@@ -65,9 +60,9 @@ fn note_seg(m: &Module, lists: &mut Rows<Use>, seg: SegId) -> Result<(), NoMemor
     requires lists { AreUseListsTo m.now (use_at seg.0 0 0) lists.old }
     ensures { OnOk result (AreUseListsTo m.now (use_at (seg.0 + 1) 0 0) lists.new) }
 {
-    let instrs = &m.segs.as_slice()[seg.0 as usize].instrs;
-    for index in 0..instrs.len() as u32 {
-        note_operands(m, lists, seg, index)?;
+    let instrs = &m.seg(seg).instrs;
+    for at in 0..instrs.len() as u32 {
+        note_operands(m, lists, Spot { seg, at })?;
     }
     Ok(())
 }
@@ -122,11 +117,11 @@ fn use_counts(alloc: Global, m: &Module) -> Result<Vec<u32>, NoMemory>
 fn empty_lists(alloc: Global, m: &Module) -> Result<Rows<Use>, NoMemory>
     ensures { IfOk result (λ lists. (v : ℕ) → v < length m.now.values → slice_get lists v ≡ Some []) }
 {
-    let no_use = Use {
+    let spot = Spot {
         seg: SegId(0),
-        index: 0,
-        operand: 0,
+        at: 0,
     };
+    let no_use = Use { spot, operand: 0 };
     let counts = use_counts(alloc, m)?;
     Rows::with_rooms(alloc, &counts, no_use)
 }

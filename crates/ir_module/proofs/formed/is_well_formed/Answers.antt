@@ -1,12 +1,25 @@
-use Rattle.std.proofs.Common.{◌≡◌}
-use Rattle.ir_module.proofs.WellFormed.{well_formed_of, data_of, bodies_of}
 use Rattle.ir_module.proofs.formed.is_well_formed.Goals as goal
+use Rattle.ir_module.proofs.formed.is_well_formed.Goals.{then-has_formed_sizes, else-has_formed_sizes}
 
 pub returns-then-has_formed_data : goal.returns-then-has_formed_data
 returns-then-has_formed_data c = (
-  λ t. well_formed_of c.args.m.now (c.has_formed_data.ensures.0 c.if-has_formed_data.true) (c.has_formed_bodies.ensures.0 t),
-  λ w. c.has_formed_bodies.ensures.1 (bodies_of c.args.m.now w),
+  λ t. elim c.if-has_formed_sizes.branch [
+    | then-has_formed_sizes w ↦
+        (let sizes = c.has_formed_sizes.ensures.0 w.if-has_formed_sizes.true in
+        let tables = w.has_formed_data.ensures.0 cc in
+        let bodies = c.has_formed_bodies.ensures.0 t in
+        record {
+          few = sizes.0;
+          type_at = sizes.1;
+          types = tables.0;
+          parts = tables.1;
+          globals = tables.2;
+          funcs = bodies.0;
+          blocks = bodies.1;
+          segs = bodies.2;
+          values = bodies.3;
+        })
+    | else-has_formed_sizes w ↦ (let no : ⊥ = cc in absurd no)
+  ],
+  λ w. c.has_formed_bodies.ensures.1 (w.funcs, w.blocks, w.segs, w.values),
 )
-
-pub returns-else-has_formed_data : goal.returns-else-has_formed_data
-returns-else-has_formed_data c = (λ t. let no : ⊥ = cc in absurd no, λ w. c.has_formed_data.ensures.1 (data_of c.args.m.now w))

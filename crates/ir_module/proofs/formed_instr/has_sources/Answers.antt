@@ -1,9 +1,8 @@
-use Rattle.std.proofs.Common.{◌≡◌, ◌∙◌, ap, List, IsTrue, ◌↔◌, subst, sym}
-use Rattle.ir_module.specs.declared.op.Arm.{Arm}
+use Rattle.std.proofs.Common.{◌≡◌, IsTrue, ◌↔◌, subst}
 use Rattle.ir_module.specs.declared.op.Op.{Op}
 use Rattle.ir_module.specs.declared.op.Op.TheVariants as op
 use Rattle.ir_module.specs.Formed.{sources}
-use Rattle.ir_module.specs.Each.{Each}
+use Rattle.ir_module.specs.WellFormed.{Each}
 use Rattle.ir_module.proofs.WellFormed.{IsSourceIn, arms_are_sources}
 use Rattle.ir_module.proofs.formed_instr.has_sources.Goals as goal
 

@@ -1,5 +1,4 @@
-use Rattle.std.proofs.Common.{◌≡◌, [], ◌∷◌, rules}
-use Rattle.ir_module.specs.Formed.{written_types}
+use Rattle.std.proofs.Common.{[], ◌∷◌, rules}
 use Rattle.ir_module.proofs.WellFormed.{types_by}
 use Rattle.ir_module.proofs.formed_instr.has_types.Goals as goal
 
@@ -9,4 +8,4 @@ returns-in-Alloca c =
 
 pub returns-in-Call : goal.returns-in-Call
 returns-in-Call c =
-    types_by c.args.m.now c.args.op.now (c.in-Call.func_ty.ret ∷ c.in-Call.func_ty.params) c.is_func_type.result (search rules) c.is_func_type.ensures
+    types_by c.args.m.now c.args.op.now (c.in-Call.call.func_ty.ret ∷ c.in-Call.call.func_ty.params) c.is_func_type.result (search rules) c.is_func_type.ensures

@@ -29,7 +29,9 @@ loop-user-preserved t c =
 pub returns-clause-settled : goal.returns-clause-settled
 returns-clause-settled t c = λ pending h.
     let items = c.users_at-user-items.result.now in
-    let next = laid_then c.args.users.now c.args.types.now c.args.standings.now c.settle.new.standings c.args.t (c.if-not-settle.ensures.laid refl) c.settle.ensures.others c.settle.ensures.settled c.requires.waiting pending h in
+    let next = laid_then c.args.users.now c.args.types.now c.args.standings.now c.settle.new.standings c.args.t
+    (c.if-not-settle.ensures.laid refl) c.settle.ensures.others c.settle.ensures.settled c.requires.waiting pending h in
     let from = subst (λ (xs : List ℕ). AreSettledBut (xs ++ pending) c.args.types.now c.settle.new.standings) (sym c.users_at-user-items.ensures) next in
     let last = c.loop-user.invariant.settled pending from in
-    subst (λ (xs : List ℕ). AreSettledBut (xs ++ pending) c.args.types.now c.loop-user.standings) (drop_all items c.loop-user.user-index (omega (arith, c.loop-user-test.false))) last
+    subst (λ (xs : List ℕ). AreSettledBut (xs ++ pending) c.args.types.now c.loop-user.standings)
+    (drop_all items c.loop-user.user-index (omega (arith, c.loop-user-test.false))) last

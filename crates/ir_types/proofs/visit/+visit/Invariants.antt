@@ -12,5 +12,6 @@ invariant-loop-user l = record {
   waiting : AreWaiting l.users l.types l.standings;
   grows : Grows l.initial.standings l.standings;
   fewer : open_count l.standings ≤ open_count l.initial.standings;
-  settled : (pending : List ℕ) → AreSettledBut (l.user-items ++ pending) l.types l.initial.standings → AreSettledBut (drop l.user-index l.user-items ++ pending) l.types l.standings;
+  settled : (pending : List ℕ) → AreSettledBut (l.user-items ++ pending) l.types l.initial.standings → AreSettledBut
+      (drop l.user-index l.user-items ++ pending) l.types l.standings;
 }

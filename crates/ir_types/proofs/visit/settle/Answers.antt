@@ -8,7 +8,8 @@ pub returns-in-Laid-clause-sound : goal.returns-in-Laid-clause-sound
 returns-in-Laid-clause-sound c =
     let within : c.args.t < length c.args.standings.now = omega (arith, c.requires.long, c.requires.within) in
     sound_set c.args.types.now c.args.standings.now c.args.t c.standing_of-standing.result c.index-types-t.result within
-    (slice_get_read c.args.types.now _ c.args.t c.index-types-t.result refl c.requires.within c.index-types-t.is) c.requires.sound c.standing_of-standing.ensures.laid
+    (slice_get_read c.args.types.now _ c.args.t c.index-types-t.result refl c.requires.within c.index-types-t.is) c.requires.sound
+    c.standing_of-standing.ensures.laid
 
 pub returns-in-Laid-clause-others : goal.returns-in-Laid-clause-others
 returns-in-Laid-clause-others c = laid_other c.args.standings.now c.args.t c.standing_of-standing.result
@@ -24,7 +25,8 @@ pub returns-in_default-matches-clause-sound : goal.returns-in_default-matches-cl
 returns-in_default-matches-clause-sound c =
     let within : c.args.t < length c.args.standings.now = omega (arith, c.requires.long, c.requires.within) in
     sound_set c.args.types.now c.args.standings.now c.args.t c.standing_of-standing.result c.index-types-t.result within
-    (slice_get_read c.args.types.now _ c.args.t c.index-types-t.result refl c.requires.within c.index-types-t.is) c.requires.sound c.standing_of-standing.ensures.laid
+    (slice_get_read c.args.types.now _ c.args.t c.index-types-t.result refl c.requires.within c.index-types-t.is) c.requires.sound
+    c.standing_of-standing.ensures.laid
 
 pub returns-in_default-matches-clause-others : goal.returns-in_default-matches-clause-others
 returns-in_default-matches-clause-others c = laid_other c.args.standings.now c.args.t c.standing_of-standing.result

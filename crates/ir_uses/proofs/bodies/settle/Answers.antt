@@ -10,7 +10,8 @@ loop-f-preserved c =
     let here = slice_get_read c.args.funcs.now (length c.args.funcs.now) c.loop-f.f func refl c.loop-f-test.true c.index-funcs-f.is in
     let taken : Bool = get_or c.loop-f.flags c.loop-f.f false in
     let inside : c.loop-f.f < length c.loop-f.flags = omega (arith, c.loop-f-test.true, c.loop-f.auto.flags, c.requires) in
-    let more = settled_more c.args.funcs.now c.args.flags.now c.loop-f.flags c.loop-f.f func taken c.loop-f.invariant inside here (slice_get-get_or c.loop-f.flags c.loop-f.f false inside) in
+    let more = settled_more c.args.funcs.now c.args.flags.now c.loop-f.flags c.loop-f.f func taken c.loop-f.invariant inside here
+    (slice_get-get_or c.loop-f.flags c.loop-f.f false inside) in
     subst (λ (b : Bool). IsSettled c.args.funcs.now c.args.flags.now (slice_set c.loop-f.flags c.loop-f.f b) (c.loop-f.f + 1)) (sym c.is_open.ensures) more
 
 pub returns : goal.returns

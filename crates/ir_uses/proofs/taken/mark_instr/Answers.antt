@@ -19,7 +19,8 @@ loop-at-preserved c =
       | in-Some w ↦
           (let all = raised_from c.args.flags.now c.loop-at.flags w.mark.new.flags names ops c.first_taker-first.result c.loop-at.at w.in-Some.w.now
           low inside (sym w.in-Some.ensures) c.loop-at.invariant w.mark.ensures in
-          subst (λ (fs : List Bool). Raises c.args.flags.now fs (λ f. list_any (names f) (drop c.first_taker-first.result (take (c.loop-at.at + 1) ops)))) (sym w.flags-is) all)
+          subst (λ (fs : List Bool). Raises c.args.flags.now fs (λ f. list_any (names f) (drop c.first_taker-first.result (take (c.loop-at.at + 1) ops))))
+          (sym w.flags-is) all)
       | in_default w ↦
           (let q = there ops c.loop-at.at inside in
           let found : slice_get ops c.loop-at.at ≡ Some q.0 = q.1 in
@@ -32,5 +33,6 @@ pub returns : goal.returns
 returns c =
     let ops : List Written = operands c.args.instr.now.op in
     let whole = take_all c.loop-at.at ops (omega (arith, c.loop-at-test.false, c.operand_count-at-end.ensures)) in
-    let all = subst (λ (xs : List Written). Raises c.args.flags.now c.loop-at.flags (λ f. list_any (names f) (drop c.first_taker-first.result xs))) whole c.loop-at.invariant in
+    let all = subst (λ (xs : List Written). Raises c.args.flags.now c.loop-at.flags (λ f. list_any (names f) (drop c.first_taker-first.result xs))) whole
+    c.loop-at.invariant in
     subst (λ (xs : List Written). Raises c.args.flags.now c.loop-at.flags (λ f. list_any (names f) xs)) c.first_taker-first.ensures all

@@ -21,4 +21,5 @@ returns c =
     let items = c.as_slice-instr-items.ensures in
     let count = ap (λ (xs : List Instr). length xs) items in
     let whole = take_all c.loop-instr.instr-index c.args.seg.now.instrs (omega (arith, c.loop-instr-test.false, count)) in
-    subst (λ (xs : List Instr). Raises c.args.flags.now c.loop-instr.flags (λ f. list_any (λ i. list_any (names f) (takers c.args.m.now i.op)) xs)) whole c.loop-instr.invariant
+    subst (λ (xs : List Instr). Raises c.args.flags.now c.loop-instr.flags (λ f. list_any (λ i. list_any (names f) (takers c.args.m.now i.op)) xs)) whole
+    c.loop-instr.invariant

@@ -2,4 +2,4 @@ use Rattle.ir_uses.specs.Noted.{use_at, AreUseListsTo}
 use Rattle.ir_uses.proofs.values.note_operands.Given as goal
 
 abbrev pub invariant-loop-operand : goal.invariant-loop-operand
-invariant-loop-operand l = AreUseListsTo l.m (use_at l.seg.0 l.index l.operand) l.lists
+invariant-loop-operand l = AreUseListsTo l.m (use_at l.spot.seg.0 l.spot.at l.operand) l.lists

@@ -21,4 +21,5 @@ returns c =
     let e = c.in-Some.extent in
     let at : laid ss t ≡ Some e = ap (λ (xs : List Standing). laid xs t) (sym c.deref.ensures.value) ∙ sym c.extent_at.ensures ∙ c.in-Some.is in
     let from = c.self.invariant.sound t e at in
-    judged_ok _ from.0 e (subst (λ (ts : List IrType). layout ts 64 t ≡ Some from.0) c.self.view_is from.1) (omega (arith, from.2.size)) (sym from.2.is_sized ∙ kept_true e.is_sized c.if-not-extent.false) from.2
+    judged_ok _ from.0 e (subst (λ (ts : List IrType). layout ts 64 t ≡ Some from.0) c.self.view_is from.1) (omega (arith, from.2.size))
+    (sym from.2.is_sized ∙ kept_true e.is_sized c.if-not-extent.false) from.2

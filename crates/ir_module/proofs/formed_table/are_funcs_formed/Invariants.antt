@@ -1,7 +1,0 @@
-use Rattle.std.proofs.Common.{length}
-use Rattle.ir_module.specs.Each.{IsFuncFormed}
-use Rattle.ir_module.proofs.Each.{EachOf}
-use Rattle.ir_module.proofs.formed_table.are_funcs_formed.Given as goal
-
-abbrev pub invariant-loop-f : goal.invariant-loop-f
-invariant-loop-f l = EachOf l.f l.m.funcs (IsFuncFormed l.m)

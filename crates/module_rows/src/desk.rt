@@ -1,0 +1,197 @@
+//! The module that the lines put together.
+use crate::calls::{NO_ATTRS, NO_FUNC_ATTRS};
+use crate::instrs::add_instr;
+use crate::operands::{operand, operand_if};
+use crate::words::{id, ty, word};
+use attr_ids::{BlockId, FuncId, NoMemory, Offsets, SegId, Sequence, Span, Text, TypeId, ValueId};
+use ir_module::{
+    Block, Blocks, Def, Func, FuncPlaces, Funcs, GlobalVar, Globals, Instrs, Linkage, Module,
+    Operands, Param, Params, Seg, Segs, Spot, ValueInfo, Values,
+};
+use ir_types::TypeTable;
+use std::alloc::Global;
+use std::mem;
+use std::str::SplitWhitespace;
+
+/// A module, and what waits for the function and the segment that it belongs to.
+#[derive(Drop)]
+pub(crate) struct Desk {
+    pub module: Module,
+    params: Params,
+    extra: Operands,
+    instrs: Instrs,
+}
+
+fn empty_module(alloc: Global) -> Module {
+    Module {
+        types: TypeTable::new(alloc),
+        globals: Globals::new(alloc),
+        funcs: Funcs::new(alloc),
+        blocks: Blocks::new(alloc),
+        segs: Segs::new(alloc),
+        values: Values::new(alloc),
+        parts: Operands::new(alloc),
+        type_at: Offsets::new(alloc),
+    }
+}
+
+fn linkage(word: &str) -> Linkage {
+    match word {
+        "private" => Linkage::Private,
+        "internal" => Linkage::Internal,
+        "available_externally" => Linkage::AvailableExternally,
+        "linkonce" => Linkage::Linkonce,
+        "weak" => Linkage::Weak,
+        "common" => Linkage::Common,
+        "appending" => Linkage::Appending,
+        "extern_weak" => Linkage::ExternWeak,
+        "linkonce_odr" => Linkage::LinkonceOdr,
+        "weak_odr" => Linkage::WeakOdr,
+        "external" => Linkage::External,
+        _ => Linkage::Plain,
+    }
+}
+
+fn spot(words: &mut SplitWhitespace<'_>) -> Spot {
+    Spot {
+        seg: SegId(id(words)),
+        at: id(words),
+    }
+}
+
+fn def(words: &mut SplitWhitespace<'_>) -> Def {
+    match word(words) {
+        "param" => Def::Param(id(words)),
+        _ => Def::Instr(spot(words)),
+    }
+}
+
+fn value(words: &mut SplitWhitespace<'_>) -> ValueInfo {
+    ValueInfo {
+        func: FuncId(id(words)),
+        ty: ty(words),
+        def: def(words),
+    }
+}
+
+/// Puts another entry in the place of one, if there is one.
+fn put<T: Drop>(table: &mut Sequence<T>, at: u32, entry: T) {
+    if (at as usize) < table.len() {
+        table.set(at as usize, entry);
+    }
+}
+
+fn block(alloc: Global, words: &mut SplitWhitespace<'_>) -> Block {
+    Block {
+        func: FuncId(id(words)),
+        name: Text::new(alloc),
+        first_seg: id(words),
+        seg_count: id(words),
+    }
+}
+
+fn global(alloc: Global, words: &mut SplitWhitespace<'_>) -> GlobalVar {
+    GlobalVar {
+        name: Text::new(alloc),
+        linkage: Linkage::Plain,
+        ty: ty(words),
+        init: operand_if(words),
+        align: None,
+        at: 0,
+    }
+}
+
+impl Desk {
+    pub(crate) fn new(alloc: Global) -> Desk {
+        Desk {
+            module: empty_module(alloc),
+            params: Params::new(alloc),
+            extra: Operands::new(alloc),
+            instrs: Instrs::new(alloc),
+        }
+    }
+
+    fn add_param(&mut self, words: &mut SplitWhitespace<'_>) -> Result<(), NoMemory> {
+        self.params.push(Param {
+            value: ValueId(id(words)),
+            ty: ty(words),
+            attrs: NO_ATTRS,
+            place: 0,
+        })
+    }
+
+    /// The function that a line ends: its name, its linkage, its return type and its blocks.
+    fn func(&mut self, alloc: Global, name: Text, words: &mut SplitWhitespace<'_>) -> Func {
+        Func {
+            name,
+            linkage: linkage(word(words)),
+            ret: ty(words),
+            ret_attrs: NO_ATTRS,
+            params: mem::replace(&mut self.params, Params::new(alloc)),
+            variadic: false,
+            attrs: NO_FUNC_ATTRS,
+            places: FuncPlaces { ret: 0, after: 0 },
+            personality: !self.extra.is_empty(),
+            extra: mem::replace(&mut self.extra, Operands::new(alloc)),
+            token: Span { from: 0, to: 0 },
+            at: 0,
+            first_block: id(words),
+            block_count: id(words),
+        }
+    }
+
+    fn add_func(&mut self, alloc: Global, words: &mut SplitWhitespace<'_>) -> Result<(), NoMemory> {
+        let name = Text::from_slice(alloc, word(words).as_bytes())?;
+        let func = self.func(alloc, name, words);
+        self.module.funcs.push(func)
+    }
+
+    /// The segment of a block with the instructions that wait.
+    fn seg(&mut self, alloc: Global, block: u32) -> Seg {
+        Seg {
+            block: BlockId(block),
+            instrs: mem::replace(&mut self.instrs, Instrs::new(alloc)),
+        }
+    }
+
+    /// Puts another entry in the place of one.
+    fn put(&mut self, alloc: Global, words: &mut SplitWhitespace<'_>) {
+        let table = word(words);
+        let at = id(words);
+        match table {
+            "block" => put(&mut self.module.blocks, at, block(alloc, words)),
+            "seg" => {
+                let seg = self.seg(alloc, id(words));
+                put(&mut self.module.segs, at, seg);
+            }
+            "value" => put(&mut self.module.values, at, value(words)),
+            _ => self.module.type_at = Offsets::new(alloc),
+        }
+    }
+
+    /// Does what a line says that adds an entry; answers whether it is such a line.
+    pub(crate) fn add(
+        &mut self,
+        alloc: Global,
+        entry: &str,
+        words: &mut SplitWhitespace<'_>,
+    ) -> Result<bool, NoMemory> {
+        match entry {
+            "do" => add_instr(alloc, &mut self.instrs, word(words), words)?,
+            "param" => self.add_param(words)?,
+            "extra" => self.extra.push(operand(words))?,
+            "func" => self.add_func(alloc, words)?,
+            "global" => self.module.globals.push(global(alloc, words))?,
+            "block" => self.module.blocks.push(block(alloc, words))?,
+            "seg" => {
+                let seg = self.seg(alloc, id(words));
+                self.module.segs.push(seg)?;
+            }
+            "value" => self.module.values.push(value(words))?,
+            "part" => self.module.parts.push(operand(words))?,
+            "put" => self.put(alloc, words),
+            _ => return Ok(false),
+        }
+        Ok(true)
+    }
+}

@@ -1,0 +1,218 @@
+//! Instructions: a name, the number of the result or `-`, the type, and what the name asks for.
+use crate::calls::call;
+use crate::operands::{operand, operand_if};
+use crate::words::{id, number, ty, word};
+use attr_ids::{BlockId, NoMemory, Span, TypeId, ValueId};
+use ir_module::{Arm, Arms, Case, Cases, Clause, Clauses, Instr, Instrs, Op, Operands, Written};
+use ir_ops::{BinOp, CastOp, Pred};
+use std::alloc::Global;
+use std::str::SplitWhitespace;
+
+fn block(words: &mut SplitWhitespace<'_>) -> BlockId {
+    BlockId(id(words))
+}
+
+/// A terminator without lists.
+fn end(name: &str, words: &mut SplitWhitespace<'_>) -> Op {
+    match name {
+        "ret" => Op::Ret {
+            val: operand_if(words),
+        },
+        "jump" => Op::Jump { to: block(words) },
+        "branch" => Op::Branch {
+            yes: block(words),
+            no: block(words),
+            c: operand(words),
+        },
+        "resume" => Op::Resume {
+            val: operand(words),
+        },
+        _ => Op::Unreachable,
+    }
+}
+
+/// An instruction of pointers without lists.
+fn memory(name: &str, words: &mut SplitWhitespace<'_>) -> Op {
+    match name {
+        "alloca" => Op::Alloca {
+            ty: ty(words),
+            align: Some(number(words)),
+            count: operand_if(words),
+        },
+        "load" => Op::Load {
+            ptr: operand(words),
+            align: None,
+            volatile: false,
+        },
+        "store" => Op::Store {
+            val: operand(words),
+            ptr: operand(words),
+            align: None,
+            volatile: false,
+        },
+        _ => end(name, words),
+    }
+}
+
+/// An instruction without lists.
+fn simple(name: &str, words: &mut SplitWhitespace<'_>) -> Op {
+    match name {
+        "add" => Op::Bin {
+            op: BinOp::Add,
+            flagged: false,
+            a: operand(words),
+            b: operand(words),
+        },
+        "icmp" => Op::Icmp {
+            pred: Pred::Eq,
+            flagged: false,
+            a: operand(words),
+            b: operand(words),
+        },
+        "ptrtoint" => Op::Cast {
+            op: CastOp::PtrToInt,
+            flagged: false,
+            a: operand(words),
+        },
+        "select" => Op::Select {
+            c: operand(words),
+            a: operand(words),
+            b: operand(words),
+        },
+        "freeze" => Op::Freeze { a: operand(words) },
+        _ => memory(name, words),
+    }
+}
+
+fn rest(alloc: Global, words: &mut SplitWhitespace<'_>) -> Result<Operands, NoMemory> {
+    let mut list = Operands::new(alloc);
+    for _ in 0..u64::MAX {
+        let Some(w) = operand_if(words) else {
+            break;
+        };
+        list.push(w)?;
+    }
+    Ok(list)
+}
+
+fn arms(alloc: Global, words: &mut SplitWhitespace<'_>) -> Result<Arms, NoMemory> {
+    let mut list = Arms::new(alloc);
+    for _ in 0..u64::MAX {
+        let Some(val) = operand_if(words) else {
+            break;
+        };
+        list.push(Arm {
+            val,
+            from: block(words),
+        })?;
+    }
+    Ok(list)
+}
+
+fn cases(alloc: Global, words: &mut SplitWhitespace<'_>) -> Result<Cases, NoMemory> {
+    let mut list = Cases::new(alloc);
+    for _ in 0..u64::MAX {
+        let Some(val) = operand_if(words) else {
+            break;
+        };
+        list.push(Case {
+            val,
+            to: block(words),
+        })?;
+    }
+    Ok(list)
+}
+
+fn catches(alloc: Global, words: &mut SplitWhitespace<'_>) -> Result<Clauses, NoMemory> {
+    let mut list = Clauses::new(alloc);
+    for _ in 0..u64::MAX {
+        let Some(val) = operand_if(words) else {
+            break;
+        };
+        list.push(Clause { filter: false, val })?;
+    }
+    Ok(list)
+}
+
+fn gep(alloc: Global, words: &mut SplitWhitespace<'_>) -> Result<Op, NoMemory> {
+    let elem = ty(words);
+    let base = operand(words);
+    let indices = rest(alloc, words)?;
+    Ok(Op::Gep {
+        elem,
+        base,
+        indices,
+        inbounds: false,
+        wrap: false,
+    })
+}
+
+fn switch(alloc: Global, words: &mut SplitWhitespace<'_>) -> Result<Op, NoMemory> {
+    let other = block(words);
+    let on = operand(words);
+    let cases = cases(alloc, words)?;
+    Ok(Op::Switch { on, other, cases })
+}
+
+fn invoke(alloc: Global, words: &mut SplitWhitespace<'_>) -> Result<Op, NoMemory> {
+    let normal = block(words);
+    let unwind = block(words);
+    let call = call(alloc, words)?;
+    Ok(Op::Invoke {
+        call,
+        normal,
+        unwind,
+    })
+}
+
+/// A landing pad that catches all.
+fn pad(alloc: Global, words: &mut SplitWhitespace<'_>) -> Result<Op, NoMemory> {
+    let clauses = catches(alloc, words)?;
+    Ok(Op::LandingPad {
+        catch_all: true,
+        clauses,
+    })
+}
+
+fn op(alloc: Global, name: &str, words: &mut SplitWhitespace<'_>) -> Result<Op, NoMemory> {
+    match name {
+        "phi" => Ok(Op::Phi {
+            arms: arms(alloc, words)?,
+        }),
+        "gep" => gep(alloc, words),
+        "switch" => switch(alloc, words),
+        "call" => Ok(Op::Call(call(alloc, words)?)),
+        "invoke" => invoke(alloc, words),
+        "pad" => pad(alloc, words),
+        _ => Ok(simple(name, words)),
+    }
+}
+
+fn result(word: &str) -> Option<ValueId> {
+    match u32::from_str_radix(word, 10) {
+        Ok(v) => Some(ValueId(v)),
+        Err(_) => None,
+    }
+}
+
+fn made(value: Option<ValueId>, ty: TypeId, op: Op) -> Instr {
+    Instr {
+        result: value,
+        named: value.is_some(),
+        ty,
+        op,
+        span: Span { from: 0, to: 0 },
+    }
+}
+
+/// Puts the instruction of a line at the end of a list.
+pub(crate) fn add_instr(
+    alloc: Global,
+    instrs: &mut Instrs,
+    name: &str,
+    words: &mut SplitWhitespace<'_>,
+) -> Result<(), NoMemory> {
+    let value = result(word(words));
+    let ty = ty(words);
+    instrs.push(made(value, ty, op(alloc, name, words)?))
+}
