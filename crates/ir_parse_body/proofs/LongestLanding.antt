@@ -10,7 +10,7 @@ use Rattle.ir_tree.specs.declared.instructions.Instr.TheVariants as instr_is
 use Rattle.ir_tree.specs.Steps.{Step, and_then, the, leaf, one_of, stands, many, some, Longest}
 use Rattle.ir_tree.specs.Types.{ty}
 use Rattle.ir_tree.specs.Constants.{tconst}
-use Rattle.ir_tree.specs.Instructions.{clause, call, instr}
+use Rattle.ir_tree.specs.Instructions.{clause, instr}
 use Rattle.ir_tree.proofs.Looks.{apart, At, at_clash}
 use Rattle.ir_tree.proofs.Looks.Test.{In}
 use Rattle.ir_tree.proofs.Clear.{pair, choice, split, some_same, moves, when_true, token_reads}

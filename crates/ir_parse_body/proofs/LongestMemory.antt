@@ -1,41 +1,23 @@
 -- The longest instruction of memory, from its parts.
-use Rattle.std.proofs.Common.{◌≡◌, ℕ, ◌≤◌, true, false, List, Option, None, Some, refl, arith}
+use Rattle.std.proofs.Common.{◌≡◌, ℕ, true, false, List, Option, None, Some, refl}
 use Rattle.ir_tree.specs.declared.terminal.Terminal.{Terminal}
 use Rattle.ir_tree.specs.declared.terminal.Terminal.TheVariants as k
 use Rattle.ir_tree.specs.declared.types.Ty.{Ty}
 use Rattle.ir_tree.specs.declared.values.Tvalue.{Tvalue}
 use Rattle.ir_tree.specs.declared.instructions.Instr.TheVariants as instr_is
-use Rattle.ir_tree.specs.Steps.{Step, the, optional, next, Longest}
+use Rattle.ir_tree.specs.Steps.{the, optional, next, Longest}
 use Rattle.ir_tree.specs.Types.{ty}
 use Rattle.ir_tree.specs.Values.{tvalue}
 use Rattle.ir_tree.specs.Instructions.{alignment, volatile, instr}
-use Rattle.ir_tree.proofs.Clear.{pair, moves, some_same}
+use Rattle.ir_tree.proofs.Clear.{pair}
 use Rattle.ir_tree.proofs.Known.{Known, leaf_of, the_of, pair_of, optional_of, next_of}
 use Rattle.ir_tree.proofs.ClearTypes.{ty_of}
 use Rattle.ir_tree.proofs.ClearValues.{tvalue_of}
 use Rattle.ir_tree.proofs.ClearInstructions.{aligned_of}
-use Rattle.ir_parse_parts.proofs.Longest.{pair_some, pair_stop}
+use Rattle.ir_parse_parts.proofs.Longest.{pair_some, pair_stop, optional_some, optional_none}
 use Rattle.ir_parse_body.proofs.Remains.{Remains, rest_none, rest_some, then_rest, pair_rest, comma_rest}
 use Rattle.ir_parse_body.proofs.LongestInstr.{comma, alloca_rest, load_rest, store_rest}
 use Rattle.ir_parse_body.proofs.LongestOperations.{next_tvalue_of}
-
--- ---- one or none
-pub optional_none : {T : Type 0} (p : T → Step) (a : ℕ) → Longest p a None → Longest (optional p) a (Some (None, a))
-optional_none {T} p a stop = (refl, go)
-  where
-    go : (x : Option T) (c : ℕ) → optional p x a ≡ Some c → c ≤ a
-    go None c e = let same : a ≡ c = some_same a c e in omega (arith, same)
-    go (Some t) c e = absurd (stop t c e)
-
-pub optional_some : {toks : List Terminal} {T : Type 0} {p : T → Step} → Known toks false p → (a b : ℕ) (t : T) → Longest p a (Some (t, b)) → Longest (optional p) a (Some (Some t, b))
-optional_some {toks} {T} {p} of_p a b t l = (l.0, go)
-  where
-    go : (x : Option T) (c : ℕ) → optional p x a ≡ Some c → c ≤ b
-    go None c e =
-        let same : a ≡ c = some_same a c e in
-        let up = moves toks of_p.first a b ((of_p.at a).opens t b l.0) in
-        omega (arith, same, up.0)
-    go (Some u) c e = l.1 u c e
 
 module _ (toks : List Terminal) where
   abbrev alignment_of : Known toks true (alignment toks)

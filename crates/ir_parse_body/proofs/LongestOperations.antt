@@ -1,5 +1,5 @@
 -- The longest operation on values, from its parts.
-use Rattle.std.proofs.Common.{◌≡◌, ℕ, false, ◌≤◌, List, [], ◌∷◌, None, Some, refl}
+use Rattle.std.proofs.Common.{◌≡◌, ℕ, false, List, [], ◌∷◌, None, Some, refl}
 use Rattle.ir_tree.specs.declared.terminal.Terminal.{Terminal}
 use Rattle.ir_tree.specs.declared.terminal.Terminal.TheVariants as k
 use Rattle.ir_tree.specs.declared.types.Ty.{Ty}
@@ -8,19 +8,19 @@ use Rattle.ir_tree.specs.declared.values.Value.{Value}
 use Rattle.ir_tree.specs.declared.values.Tvalue.{Tvalue}
 use Rattle.ir_tree.specs.declared.instructions.Arm.{Arm}
 use Rattle.ir_tree.specs.declared.instructions.Instr.TheVariants as instr_is
-use Rattle.ir_tree.specs.Steps.{Step, the, leaf, many, some, next, listed, Longest}
+use Rattle.ir_tree.specs.Steps.{the, leaf, many, some, next, listed, Longest}
 use Rattle.ir_tree.specs.Types.{ty}
 use Rattle.ir_tree.specs.Constants.{iflag, gepflag}
 use Rattle.ir_tree.specs.Values.{value, tvalue}
 use Rattle.ir_tree.specs.Instructions.{arm, instr}
-use Rattle.ir_tree.proofs.Clear.{pair, split}
+use Rattle.ir_tree.proofs.Clear.{pair}
 use Rattle.ir_tree.proofs.Known.{Known, leaf_of, the_of, pair_of, many_of, some_of, next_of, listed_of}
 use Rattle.ir_tree.proofs.ClearTypes.{ty_of}
 use Rattle.ir_tree.proofs.ClearConstants.{iflag_of, gepflag_known}
 use Rattle.ir_tree.proofs.ClearValues.{value_of, tvalue_of}
 use Rattle.ir_tree.proofs.ClearInstructions.{arm_of}
 use Rattle.ir_parse_parts.specs.Parts.{any_of}
-use Rattle.ir_parse_parts.proofs.Longest.{leaf_some, leaf_none, the_some, the_none, pair_some, pair_stop}
+use Rattle.ir_parse_parts.proofs.Longest.{leaf_some, leaf_none, the_some, the_none, pair_stop, listed_some, listed_none}
 use Rattle.ir_parse_body.specs.declared.operations.Sides.{Sides}
 use Rattle.ir_parse_body.specs.Parts.{operands}
 use Rattle.ir_parse_body.proofs.Remains.{Remains, rest_none, rest_some, then_rest, pair_rest, comma_rest, next_rest}
@@ -220,28 +220,14 @@ module _ (toks : List Terminal) where
           arm_ends end e = rest_some close_rest (the_some toks k.RightBracket close end e)
 
   -- ---- phi
-  listed_none : {T : Type 0} (p : T → Step) (a : ℕ) → Longest p a None → Longest (listed toks p) a None
-  listed_none {T} p a stop = go
-    where
-      go : (us : List T) (c : ℕ) → listed toks p us a ≡ Some c → ⊥
-      go [] c e = cc
-      go (u ∷ us) c e = let s = split (p u a) (many (next toks p) us) c e in stop u s.0 s.1.0
-
-  listed_some : {T : Type 0} (p : T → Step) (a b : ℕ) (t : T) (ts : List T) → Longest (pair p (many (next toks p))) a (Some ((t, ts), b)) → Longest (listed toks p) a (Some (t ∷ ts, b))
-  listed_some {T} p a b t ts l = (l.0, go)
-    where
-      go : (us : List T) (c : ℕ) → listed toks p us a ≡ Some c → c ≤ b
-      go [] c e = cc
-      go (u ∷ us) c e = l.1 (u, us) c e
-
   abbrev pub next_arm_of : Known toks false (next toks (arm toks))
   next_arm_of = next_of (arm_of toks)
 
   pub arms_none : (a : ℕ) → Longest (arm toks) a None → Longest (listed toks (arm toks)) a None
-  arms_none a n = listed_none (arm toks) a n
+  arms_none a n = listed_none toks (arm toks) a n
 
   pub arms_all : (a m b : ℕ) (t : Arm) (ts : List Arm) → Longest (arm toks) a (Some (t, m)) → Longest (many (next toks (arm toks))) m (Some (ts, b)) → Longest (listed toks (arm toks)) a (Some (t ∷ ts, b))
-  arms_all a m b t ts l rest = listed_some (arm toks) a b t ts (pair_some (arm_of toks) (many_of next_arm_of refl) refl a m b t ts l rest)
+  arms_all a m b t ts l rest = listed_some (arm_of toks) refl a m b t ts l rest
 
   module _ (a first : ℕ) (h : Some first ≡ the toks k.Phi a) where
     pub phi_no_type : Longest (ty toks) first None → Longest (instr toks) a None

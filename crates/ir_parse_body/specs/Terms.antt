@@ -13,3 +13,7 @@ targets toks x = the toks k.Comma ⨾ target toks x.0 ⨾ the toks k.Comma ⨾ t
 -- `',' 'label' Local '[' case* ']'`
 abbrev pub table : List Terminal → ℕ × List Case → Step
 table toks x = the toks k.Comma ⨾ target toks x.0 ⨾ the toks k.LeftBracket ⨾ many (case toks) x.1 ⨾ the toks k.RightBracket
+
+-- where an invoke goes on: `'to' 'label' Local 'unwind' 'label' Local`
+abbrev pub destinations : List Terminal → ℕ × ℕ → Step
+destinations toks x = the toks k.To ⨾ target toks x.0 ⨾ the toks k.Unwind ⨾ target toks x.1

@@ -117,8 +117,8 @@ fn line(alloc: Global, toks: &[Terminal], at: u32) -> Result<Option<(Line, u32)>
     let Some((instr, end)) = instr(alloc, toks, start)? else {
         return Ok(None);
     };
-    let (attached, next) = attachments(alloc, toks, end)?;
     let instr = Boxed::new(alloc, instr)?;
+    let (attached, next) = attachments(alloc, toks, end)?;
     Ok(Some((
         Line::Instr {
             result,
@@ -158,8 +158,8 @@ fn last_invoke(alloc: Global, toks: &[Terminal], at: u32) -> Result<Option<(Last
     let Some((invoke, end)) = invoke(alloc, toks, start)? else {
         return Ok(None);
     };
-    let ((attached, after), next) = behind(alloc, toks, end)?;
     let invoke = Boxed::new(alloc, invoke)?;
+    let ((attached, after), next) = behind(alloc, toks, end)?;
     Ok(Some((
         Last::Invoke {
             result,

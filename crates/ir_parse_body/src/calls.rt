@@ -4,34 +4,16 @@ ghost use Rattle.ir_tree.specs.declared.instructions.Arg.{Arg};
 ghost use Rattle.ir_tree.specs.Steps.{Longest, optional, many, next, separated};
 ghost use Rattle.ir_tree.specs.Types as types;
 ghost use Rattle.ir_tree.specs.Instructions as production;
-ghost use Rattle.ir_parse_body.specs.Callee as spec;
+ghost use Rattle.ir_parse_body.specs.Terms as spec;
 
+use crate::terms::target;
 use attr_ids::NoMemory;
 use ir_parse_parts::{calling_convention, ftype, optional, rattrs, the, ty, value, words};
-use ir_tree::{Arg, Call, Cc, Ftype, Invoke, Leaf, Rattr, Terminal, Ty, Value, Word};
+use ir_tree::{Arg, Arguments, Call, Called, Callee, Ftype, Invoke, Terminal};
 use sqlite_items::Items;
 use std::alloc::Global;
 
-/// What is called: `[cc] rattr* (type | ftype) value`.
-#[derive(Drop)]
-struct Callee {
-    cc: Option<Cc>,
-    result_words: Items<Rattr>,
-    result: Ty,
-    params: Option<Ftype>,
-    callee: Value,
-}
-
-/// What is passed to it: `'(' arg,* ')' (fattr | Group)*`.
-#[derive(Drop)]
-struct Arguments {
-    args: Items<Arg>,
-    /// The closing parenthesis.
-    close: Leaf,
-    attributes: Items<Word>,
-}
-
-/// `['tail' | 'notail'] 'call' ..`
+/// `['tail' | 'notail'] 'call' called`
 pub(crate) fn call(
     alloc: Global,
     toks: &[Terminal],
@@ -44,30 +26,13 @@ pub(crate) fn call(
     let Some(first) = the(toks, Terminal::Call, op) else {
         return Ok(None);
     };
-    let Some((callee, open)) = called(alloc, toks, first)? else {
+    let Some((called, next)) = called(alloc, toks, first)? else {
         return Ok(None);
     };
-    let Some((arguments, next)) = passed(alloc, toks, open)? else {
-        return Ok(None);
-    };
-    Ok(Some((
-        Call {
-            tail,
-            op,
-            cc: callee.cc,
-            result_words: callee.result_words,
-            result: callee.result,
-            params: callee.params,
-            callee: callee.callee,
-            args: arguments.args,
-            close: arguments.close,
-            attributes: arguments.attributes,
-        },
-        next,
-    )))
+    Ok(Some((Call { tail, op, called }, next)))
 }
 
-/// `'invoke' ..`
+/// `'invoke' called 'to' 'label' Local 'unwind' 'label' Local`
 pub(crate) fn invoke(
     alloc: Global,
     toks: &[Terminal],
@@ -80,10 +45,7 @@ pub(crate) fn invoke(
     let Some(first) = the(toks, Terminal::Invoke, op) else {
         return Ok(None);
     };
-    let Some((callee, open)) = called(alloc, toks, first)? else {
-        return Ok(None);
-    };
-    let Some((arguments, to)) = passed(alloc, toks, open)? else {
+    let Some((called, to)) = called(alloc, toks, first)? else {
         return Ok(None);
     };
     let Some(((normal, unwind), next)) = destinations(toks, to) else {
@@ -92,14 +54,7 @@ pub(crate) fn invoke(
     Ok(Some((
         Invoke {
             op,
-            cc: callee.cc,
-            result_words: callee.result_words,
-            result: callee.result,
-            params: callee.params,
-            callee: callee.callee,
-            args: arguments.args,
-            close: arguments.close,
-            attributes: arguments.attributes,
+            called,
             normal,
             unwind,
         },
@@ -107,10 +62,24 @@ pub(crate) fn invoke(
     )))
 }
 
-/// `[cc] rattr* (type | ftype) value`
-fn called(alloc: Global, toks: &[Terminal], at: u32) -> Result<Option<(Callee, u32)>, NoMemory>
+/// `callee arguments`
+fn called(alloc: Global, toks: &[Terminal], at: u32) -> Result<Option<(Called, u32)>, NoMemory>
     requires few { length toks.now < 2 ^ 32 }
-    ensures { IfOk result (λ r. Longest (spec.called toks.now) at r) }
+    ensures { IfOk result (λ r. Longest (production.called toks.now) at r) }
+{
+    let Some((callee, open)) = callee(alloc, toks, at)? else {
+        return Ok(None);
+    };
+    let Some((arguments, next)) = arguments(alloc, toks, open)? else {
+        return Ok(None);
+    };
+    Ok(Some((Called { callee, arguments }, next)))
+}
+
+/// `[cc] rattr* (type | ftype) value`
+fn callee(alloc: Global, toks: &[Terminal], at: u32) -> Result<Option<(Callee, u32)>, NoMemory>
+    requires few { length toks.now < 2 ^ 32 }
+    ensures { IfOk result (λ r. Longest (production.callee toks.now) at r) }
 {
     let (cc, first) = calling_convention(toks, at);
     let (result_words, kind) = rattrs(alloc, toks, first)?;
@@ -118,7 +87,7 @@ fn called(alloc: Global, toks: &[Terminal], at: u32) -> Result<Option<(Callee, u
         return Ok(None);
     };
     let (params, named) = parameters(alloc, toks, behind)?;
-    let Some((callee, next)) = value(alloc, toks, named)? else {
+    let Some((value, next)) = value(alloc, toks, named)? else {
         return Ok(None);
     };
     Ok(Some((
@@ -127,7 +96,7 @@ fn called(alloc: Global, toks: &[Terminal], at: u32) -> Result<Option<(Callee, u
             result_words,
             result,
             params,
-            callee,
+            value,
         },
         next,
     )))
@@ -145,9 +114,13 @@ fn parameters(alloc: Global, toks: &[Terminal], at: u32) -> Result<(Option<Ftype
 }
 
 /// `'(' arg,* ')' (fattr | Group)*`
-fn passed(alloc: Global, toks: &[Terminal], at: u32) -> Result<Option<(Arguments, u32)>, NoMemory>
+fn arguments(
+    alloc: Global,
+    toks: &[Terminal],
+    at: u32,
+) -> Result<Option<(Arguments, u32)>, NoMemory>
     requires few { length toks.now < 2 ^ 32 }
-    ensures { IfOk result (λ r. Longest (spec.passed toks.now) at r) }
+    ensures { IfOk result (λ r. Longest (production.arguments toks.now) at r) }
 {
     let Some(first) = the(toks, Terminal::LeftParen, at) else {
         return Ok(None);
@@ -242,14 +215,4 @@ fn destinations(toks: &[Terminal], at: u32) -> Option<((u32, u32), u32)>
     let second = the(toks, Terminal::Unwind, behind)?;
     let (unwind, next) = target(toks, second)?;
     Some(((normal, unwind), next))
-}
-
-/// `'label' Local`
-fn target(toks: &[Terminal], at: u32) -> Option<(u32, u32)>
-    requires few { length toks.now < 2 ^ 32 }
-    ensures { Longest (production.target toks.now) at result }
-{
-    let name = the(toks, Terminal::LabelWord, at)?;
-    let next = the(toks, Terminal::Local, name)?;
-    Some((name, next))
 }

@@ -12,14 +12,6 @@ mod operations;
 mod parse;
 mod refusal;
 mod terms;
-#[cfg(test)]
-mod tests;
-#[cfg(test)]
-mod tests_blocks;
-#[cfg(test)]
-mod tests_calls;
-#[cfg(test)]
-mod tests_instructions;
 
 pub use blocks::body;
 pub use parse::{offset, parse_body, terminals};

@@ -76,10 +76,10 @@ fn br(
     let Some((on, comma)) = tvalue(alloc, toks, first)? else {
         return Ok(None);
     };
+    let on = Boxed::new(alloc, on)?;
     let Some(((yes, no), next)) = targets(toks, comma) else {
         return Ok(None);
     };
-    let on = Boxed::new(alloc, on)?;
     Ok(Some((
         Term::Branch {
             op: start,
@@ -140,7 +140,7 @@ fn resume(
 }
 
 /// `'label' Local`: the name, and the place behind it.
-fn target(toks: &[Terminal], at: u32) -> Option<(u32, u32)>
+pub(crate) fn target(toks: &[Terminal], at: u32) -> Option<(u32, u32)>
     requires few { length toks.now < 2 ^ 32 }
     ensures { Longest (production.target toks.now) at result }
 {

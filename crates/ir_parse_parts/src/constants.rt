@@ -172,13 +172,13 @@ fn getelementptr(
     let Some((elem, comma)) = ty(alloc, toks, inner)? else {
         return Ok(None);
     };
+    let elem = Boxed::new(alloc, elem)?;
     let Some((operands, close)) = operands(alloc, toks, comma)? else {
         return Ok(None);
     };
     let Some(next) = the(toks, Terminal::RightParen, close) else {
         return Ok(None);
     };
-    let elem = Boxed::new(alloc, elem)?;
     Ok(Some((
         Const::GetElementPtr {
             op: start,
@@ -208,17 +208,17 @@ fn cast(
     let Some((of, word)) = tconst(alloc, toks, inner)? else {
         return Ok(None);
     };
+    let of = Boxed::new(alloc, of)?;
     let Some(target) = the(toks, Terminal::To, word) else {
         return Ok(None);
     };
     let Some((to, close)) = ty(alloc, toks, target)? else {
         return Ok(None);
     };
+    let to = Boxed::new(alloc, to)?;
     let Some(next) = the(toks, Terminal::RightParen, close) else {
         return Ok(None);
     };
-    let of = Boxed::new(alloc, of)?;
-    let to = Boxed::new(alloc, to)?;
     Ok(Some((Const::Cast { op: start, of, to }, next)))
 }
 
@@ -241,17 +241,17 @@ fn binop(
     let Some((left, comma)) = tconst(alloc, toks, inner)? else {
         return Ok(None);
     };
+    let left = Boxed::new(alloc, left)?;
     let Some(second) = the(toks, Terminal::Comma, comma) else {
         return Ok(None);
     };
     let Some((right, close)) = tconst(alloc, toks, second)? else {
         return Ok(None);
     };
+    let right = Boxed::new(alloc, right)?;
     let Some(next) = the(toks, Terminal::RightParen, close) else {
         return Ok(None);
     };
-    let left = Boxed::new(alloc, left)?;
-    let right = Boxed::new(alloc, right)?;
     Ok(Some((
         Const::Binop {
             op: start,

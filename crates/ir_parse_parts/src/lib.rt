@@ -19,8 +19,3 @@ pub use flags::{gepflags, iflags};
 pub use step::{either, leaves, optional, stands, the};
 pub use types::{ftype, trailing_dots, ty};
 pub use values::{tvalue, value};
-
-#[cfg(test)]
-mod tests;
-#[cfg(test)]
-mod tests_attributes;

@@ -62,10 +62,10 @@ fn array(
     let Some((elem, close)) = ty(alloc, toks, first)? else {
         return Ok(None);
     };
+    let elem = Boxed::new(alloc, elem)?;
     let Some(next) = the(toks, Terminal::RightBracket, close) else {
         return Ok(None);
     };
-    let elem = Boxed::new(alloc, elem)?;
     Ok(Some((
         Ty::Array {
             open: start,

@@ -22,14 +22,16 @@ use Rattle.ir_tree.specs.Headers.{header}
 use Rattle.ir_tree.specs.Entities.{global_var, declare, define, type_body, entity}
 use Rattle.ir_tree.proofs.Looks.{At}
 use Rattle.ir_tree.proofs.Clear.{pair, choice, split}
-use Rattle.ir_tree.proofs.Known.{Known, firsts, leaf_of, the_of, pair_of, choice_of, many_of}
+use Rattle.ir_tree.proofs.Known.{Known, firsts, leaf_of, the_of, pair_of, choice_of, many_of, shape_of}
 use Rattle.ir_tree.proofs.ClearTypes.{ty_of}
 use Rattle.ir_tree.proofs.ClearAttributes.{gattr_of, attach_of}
 use Rattle.ir_tree.proofs.ClearBlocks.{body_of}
 use Rattle.ir_tree.proofs.ClearHeaders.{header_of}
 use Rattle.ir_tree.proofs.ClearEntities.{EntityShape, entity_back, entity_shape, entity_view, type_body_back, type_body_shape, type_body_view, type_body_of, global_var_of, declare_of, define_of}
-use Rattle.ir_parse_parts.proofs.Longest.{turned, leaf_some, leaf_none, the_some, the_none, pair_some, pair_none, pair_stop, choice_none, not_begun}
+use Rattle.ir_parse_parts.proofs.Longest.{turned, leaf_some, leaf_none, the_some, the_none, pair_some}
+use Rattle.ir_parse_parts.proofs.Longest.{pair_none, pair_stop, shape_some, shape_none, choice_none, not_begun}
 use Rattle.ir_parse_body.proofs.Sequences.{shaped, pair_by, choice_left, choice_right, seen}
+use Rattle.ir_parse_top.specs.Parts.{braced}
 
 module _ (toks : List Terminal) where
   -- ---- one of the eight
@@ -330,56 +332,81 @@ module _ (toks : List Terminal) where
     declare_by None g = by_shape a None (declared_shape a (seen toks k.Declare a b h) None (declared_as None (declared_by None g)))
     declare_by (Some x) g = by_shape a (Some (inr (inr (inr (inr (inr (inr (inl (declare_back (a, (all, x.0))))))))), x.1)) (declared_shape a (seen toks k.Declare a b h) (Some (declare_back (a, (all, x.0)), x.1)) (declared_as (Some ((a, (all, x.0)), x.1)) (declared_by (Some x) g)))
 
-  -- ---- definitions
-  abbrev define_back : ℕ × (Header × (Unit {0} × (Body × ℕ))) → Define
-  define_back x = record { word = x.0; header = x.1.0; body = x.1.1.1.0; close = x.1.1.1.1 }
-
+  -- ---- the body of a definition
   abbrev closed_part : Body × ℕ → Step
   closed_part = pair (body toks) (leaf toks k.RightBrace)
 
   abbrev closed_of : Known toks false closed_part
   closed_of = pair_of (body_of toks) (leaf_of k.RightBrace) refl
 
-  abbrev inside_part : Unit {0} × (Body × ℕ) → Step
-  inside_part = pair (λ _. the toks k.LeftBrace) closed_part
+  abbrev braced_shape : Unit {0} × (Body × ℕ) → Step
+  braced_shape = pair (λ _. the toks k.LeftBrace) closed_part
 
-  abbrev inside_of : Known toks false inside_part
-  inside_of = pair_of (the_of k.LeftBrace) closed_of refl
+  abbrev braced_back : Unit {0} × (Body × ℕ) → Body × ℕ
+  braced_back x = x.1
 
-  abbrev headed_part : Header × (Unit {0} × (Body × ℕ)) → Step
-  headed_part = pair (header toks) inside_part
+  braced_view : (t : Body × ℕ) (a b : ℕ) → braced toks t a ≡ Some b → (x : Unit {0} × (Body × ℕ)) × ((braced_back x ≡ t) × (braced_shape x a ≡ Some b))
+  braced_view t a b e = ((tt, t), (refl, e))
+
+  abbrev braced_of : Known toks false (braced toks)
+  braced_of = shape_of braced_back braced_view (pair_of (the_of k.LeftBrace) closed_of refl)
+
+  pub braced_no_open : (a : ℕ) → None ≡ the toks k.LeftBrace a → Longest (braced toks) a None
+  braced_no_open a n =
+      shape_none (braced toks) braced_back braced_view (λ x a b e. e) (pair_stop (the_of k.LeftBrace) closed_of a (the_none toks k.LeftBrace a n))
+
+  module _ (a b : ℕ) (h : Some b ≡ the toks k.LeftBrace a) where
+    -- no body in braces is where none fits behind the opening brace
+    closed_rest : Longest closed_part b None → Longest (braced toks) a None
+    closed_rest n =
+        shape_none (braced toks) braced_back braced_view (λ x a b e. e)
+        (pair_none (the_of k.LeftBrace) closed_of refl a b tt (the_some toks k.LeftBrace a b h) n)
+
+    pub braced_no_body : Longest (body toks) b None → Longest (braced toks) a None
+    braced_no_body n = closed_rest (pair_stop (body_of toks) (leaf_of k.RightBrace) b n)
+
+    module _ (c : ℕ) (inner : Body) (l : Longest (body toks) b (Some (inner, c))) where
+      pub braced_no_close : None ≡ the toks k.RightBrace c → Longest (braced toks) a None
+      braced_no_close n = closed_rest (pair_none (body_of toks) (leaf_of k.RightBrace) refl b c inner l (leaf_none toks k.RightBrace c n))
+
+      pub braced_ends : (d : ℕ) → Some d ≡ the toks k.RightBrace c → Longest (braced toks) a (Some ((inner, c), d))
+      braced_ends d e =
+          shape_some (braced toks) braced_back braced_view (λ x a b e. e) {x = (tt, (inner, c))}
+          (pair_some (the_of k.LeftBrace) closed_of refl a b d tt (inner, c) (the_some toks k.LeftBrace a b h)
+          (pair_some (body_of toks) (leaf_of k.RightBrace) refl b c d inner c l (leaf_some toks k.RightBrace c d e)))
+
+  -- ---- definitions
+  abbrev define_back : ℕ × (Header × (Body × ℕ)) → Define
+  define_back x = record { word = x.0; header = x.1.0; body = x.1.1.0; close = x.1.1.1 }
+
+  abbrev headed_part : Header × (Body × ℕ) → Step
+  headed_part = pair (header toks) (braced toks)
 
   abbrev headed_of : Known toks false headed_part
-  headed_of = pair_of (header_of toks) inside_of refl
+  headed_of = pair_of (header_of toks) braced_of refl
 
   module _ (a b : ℕ) (h : Some b ≡ the toks k.Define a) where
-    defined_as : (r : Option ((ℕ × (Header × (Unit {0} × (Body × ℕ)))) × ℕ)) → Longest (pair (leaf toks k.Define) headed_part) a r → Longest (define toks) a (turned define_back r)
-    defined_as r g = shaped (define toks) (pair (leaf toks k.Define) headed_part) a define_back (λ t b e. ((t.word, (t.header, (tt, (t.body, t.close)))), (refl, e))) (λ x. refl) r g
+    defined_as : (r : Option ((ℕ × (Header × (Body × ℕ))) × ℕ)) → Longest (pair (leaf toks k.Define) headed_part) a r
+        → Longest (define toks) a (turned define_back r)
+    defined_as r g =
+        shaped (define toks) (pair (leaf toks k.Define) headed_part) a define_back (λ t b e. ((t.word, (t.header, (t.body, t.close))), (refl, e))) (λ x. refl)
+        r g
 
-    define_by : (r : Option ((Header × (Unit {0} × (Body × ℕ))) × ℕ)) → Longest headed_part b r → Longest (entity toks) a (turned (λ x. entity_is.Define (define_back (a, x))) r)
+    define_by : (r : Option ((Header × (Body × ℕ)) × ℕ)) → Longest headed_part b r
+        → Longest (entity toks) a (turned (λ x. entity_is.Define (define_back (a, x))) r)
     define_by None g = by_shape a None (defined_shape a (seen toks k.Define a b h) None (defined_as None (pair_by (leaf_of k.Define) headed_of refl a b a (leaf_some toks k.Define a b h) None g)))
     define_by (Some x) g = by_shape a (Some (inr (inr (inr (inr (inr (inr (inr (define_back (a, x.0)))))))), x.1)) (defined_shape a (seen toks k.Define a b h) (Some (define_back (a, x.0), x.1)) (defined_as (Some ((a, x.0), x.1)) (pair_by (leaf_of k.Define) headed_of refl a b a (leaf_some toks k.Define a b h) (Some x) g)))
 
     pub define_no_header : Longest (header toks) b None → Longest (entity toks) a None
-    define_no_header n = define_by None (pair_stop (header_of toks) inside_of b n)
+    define_no_header n = define_by None (pair_stop (header_of toks) braced_of b n)
 
     module _ (c : ℕ) (top : Header) (l : Longest (header toks) b (Some (top, c))) where
-      inside_by : (r : Option ((Unit {0} × (Body × ℕ)) × ℕ)) → Longest inside_part c r → Longest headed_part b (turned (λ x. (top, x)) r)
-      inside_by r g = pair_by (header_of toks) inside_of refl b c top l r g
+      pub define_no_body : Longest (braced toks) c None → Longest (entity toks) a None
+      define_no_body n = define_by None (pair_by (header_of toks) braced_of refl b c top l None n)
 
-      pub define_no_brace : None ≡ the toks k.LeftBrace c → Longest (entity toks) a None
-      define_no_brace n = define_by None (inside_by None (pair_stop (the_of k.LeftBrace) closed_of c (the_none toks k.LeftBrace c n)))
-
-      module _ (d : ℕ) (h' : Some d ≡ the toks k.LeftBrace c) where
-        pub define_no_body : Longest (body toks) d None → Longest (entity toks) a None
-        define_no_body n = define_by None (inside_by None (pair_none (the_of k.LeftBrace) closed_of refl c d tt (the_some toks k.LeftBrace c d h') (pair_stop (body_of toks) (leaf_of k.RightBrace) d n)))
-
-        module _ (e : ℕ) (inner : Body) (m : Longest (body toks) d (Some (inner, e))) where
-          pub define_no_close : None ≡ the toks k.RightBrace e → Longest (entity toks) a None
-          define_no_close n = define_by None (inside_by None (pair_none (the_of k.LeftBrace) closed_of refl c d tt (the_some toks k.LeftBrace c d h') (pair_none (body_of toks) (leaf_of k.RightBrace) refl d e inner m (leaf_none toks k.RightBrace e n))))
-
-          pub define_ends : (f : ℕ) → Some f ≡ the toks k.RightBrace e → Longest (entity toks) a (Some (entity_is.Define (record { word = a; header = top; body = inner; close = e }), f))
-          define_ends f i = define_by (Some ((top, (tt, (inner, e))), f)) (inside_by (Some ((tt, (inner, e)), f)) (pair_some (the_of k.LeftBrace) closed_of refl c d f tt (inner, e) (the_some toks k.LeftBrace c d h') (pair_some (body_of toks) (leaf_of k.RightBrace) refl d e f inner e m (leaf_some toks k.RightBrace e f i))))
+      pub define_ends : (inside : Body × ℕ) (d : ℕ) → Longest (braced toks) c (Some (inside, d))
+          → Longest (entity toks) a (Some (entity_is.Define (record { word = a; header = top; body = inside.0; close = inside.1 }), d))
+      define_ends inside d m = define_by (Some ((top, inside), d)) (pair_by (header_of toks) braced_of refl b c top l (Some (inside, d)) m)
 
   -- ---- a line of directives, and no entity
   pub opaque_line : (a b : ℕ) → Some b ≡ the toks k.Opaque a → Longest (entity toks) a (Some (entity_is.Opaque a, b))

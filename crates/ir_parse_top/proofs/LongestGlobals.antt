@@ -25,7 +25,7 @@ use Rattle.ir_parse_parts.specs.Parts.{any_of}
 use Rattle.ir_parse_parts.proofs.Longest.{nothing, leaf_some, leaf_none, the_some, the_none, passing_some, passing_none, choice_left, choice_right, optional_some, optional_none, pair_some, pair_none, pair_stop, shape_some, shape_none}
 use Rattle.ir_parse_top.specs.declared.globals.Introduction.{Introduction}
 use Rattle.ir_parse_top.specs.declared.globals.Contents.{Contents}
-use Rattle.ir_parse_top.specs.Parts.{leaf_pair, introduced, typed}
+use Rattle.ir_parse_top.specs.Parts.{leaf_pair, introduced, typed, behind_initial}
 use Rattle.ir_parse_top.proofs.Steps.{five}
 
 -- ---- words
@@ -273,11 +273,16 @@ module _ (toks : List Terminal) where
   pub contents_no_type : (a : ℕ) → Longest (ty toks) a None → Longest (typed toks) a None
   contents_no_type a n = shape_none (typed toks) contents_back contents_view (λ x a b e. e) (pair_stop (ty_of toks) from_value a n)
 
-  pub contents_ends : (a value behind last end : ℕ) (kind : Ty) (first : Option Const) (tails : List Gtail) (groups : List ℕ) → Longest (ty toks) a (Some (kind, value)) → Longest (optional (initial toks)) value (Some (first, behind)) → Longest (many (next toks (gtail toks))) behind (Some (tails, last)) → Longest (many (leaf toks k.Group)) last (Some (groups, end)) → Longest (typed toks) a (Some (contents_back (kind, (first, (tails, groups))), end))
-  contents_ends a value behind last end kind first tails groups l l' l'' l''' =
-      shape_some (typed toks) contents_back contents_view (λ x a b e. e) {x = (kind, (first, (tails, groups)))}
-      (pair_some (ty_of toks) from_value refl a value end kind (first, (tails, groups)) l
-      (pair_some value_of from_tails refl value behind end first (tails, groups) l' (pair_some tails_of groups_of refl behind last end tails groups l'' l''')))
+  pub behind_initial_ends : (a last end : ℕ) (tails : List Gtail) (groups : List ℕ) → Longest (many (next toks (gtail toks))) a (Some (tails, last))
+      → Longest (many (leaf toks k.Group)) last (Some (groups, end)) → Longest (behind_initial toks) a (Some ((tails, groups), end))
+  behind_initial_ends a last end tails groups l l' = pair_some tails_of groups_of refl a last end tails groups l l'
+
+  pub contents_ends : (a value behind end : ℕ) (kind : Ty) (first : Option Const) (ending : List Gtail × List ℕ) → Longest (ty toks) a (Some (kind, value))
+      → Longest (optional (initial toks)) value (Some (first, behind)) → Longest (behind_initial toks) behind (Some (ending, end))
+      → Longest (typed toks) a (Some (contents_back (kind, (first, ending)), end))
+  contents_ends a value behind end kind first ending l l' l'' =
+      shape_some (typed toks) contents_back contents_view (λ x a b e. e) {x = (kind, (first, ending))}
+      (pair_some (ty_of toks) from_value refl a value end kind (first, ending) l (pair_some value_of from_tails refl value behind end first ending l' l''))
 
   -- ---- `Global '=' ..`
   abbrev GlobalShape : Type 0

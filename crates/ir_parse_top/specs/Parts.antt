@@ -3,10 +3,13 @@ use Rattle.std.specs.Prelude.{ℕ, List}
 use Rattle.ir_tree.specs.declared.terminal.Terminal.{Terminal}
 use Rattle.ir_tree.specs.declared.terminal.Terminal.TheVariants as k
 use Rattle.ir_tree.specs.declared.constants.Tconst.{Tconst}
+use Rattle.ir_tree.specs.declared.entities.Gtail.{Gtail}
+use Rattle.ir_tree.specs.declared.blocks.Body.{Body}
 use Rattle.ir_tree.specs.Steps.{Step, ◌⨾◌, the, leaf, many, optional, next}
 use Rattle.ir_tree.specs.Types.{ty}
 use Rattle.ir_tree.specs.Constants.{tconst}
 use Rattle.ir_tree.specs.Attributes.{rattr, word, cc}
+use Rattle.ir_tree.specs.Blocks.{body}
 use Rattle.ir_tree.specs.Headers.{params, ftail}
 use Rattle.ir_tree.specs.Entities.{gword, gtail, initial}
 use Rattle.ir_parse_top.specs.declared.headers.Opening.{Opening}
@@ -38,6 +41,14 @@ extra toks x = leaf toks k.Extra x.0 ⨾ tconst toks x.1
 -- what stands before a global variable's type: `Global '=' [linkage] gword* ('global' | 'constant')`
 abbrev pub introduced : List Terminal → Introduction → Step
 introduced toks x = leaf toks k.Global x.name ⨾ the toks k.Equals ⨾ optional (leaf toks k.Linkage) x.linkage ⨾ many (gword toks) x.words ⨾ leaf toks k.Variable x.kind
+
+-- what stands behind the initial value: `(',' gtail)* Group*`
+abbrev pub behind_initial : List Terminal → List Gtail × List ℕ → Step
+behind_initial toks x = many (next toks (gtail toks)) x.0 ⨾ many (leaf toks k.Group) x.1
+
+-- the body of a definition in its braces, with the place of the closing one: `'{' first block* '}'`
+abbrev pub braced : List Terminal → Body × ℕ → Step
+braced toks x = the toks k.LeftBrace ⨾ body toks x.0 ⨾ leaf toks k.RightBrace x.1
 
 -- the type and what stands behind it: `type [const] (',' gtail)* Group*`
 abbrev pub typed : List Terminal → Contents → Step

@@ -4,13 +4,14 @@ ghost use Rattle.ir_tree.specs.declared.terminal.Terminal.TheVariants as k;
 ghost use Rattle.ir_tree.specs.Steps.{Longest, many, the};
 ghost use Rattle.ir_tree.specs.Attributes.{attach};
 ghost use Rattle.ir_tree.specs.Entities as production;
+ghost use Rattle.ir_parse_top.specs.Parts as spec;
 
 use crate::globals::global_var;
 use crate::headers::header;
 use attr_ids::NoMemory;
 use ir_parse_body::body;
 use ir_parse_parts::{attach, gattrs, the, ty};
-use ir_tree::{Attach, Declare, Define, Entity, Terminal, TypeBody};
+use ir_tree::{Attach, Body, Declare, Define, Entity, Terminal, TypeBody};
 use sqlite_items::{Boxed, Items};
 use std::alloc::Global;
 
@@ -226,15 +227,10 @@ fn define(
     let Some((header, brace)) = header(alloc, toks, first)? else {
         return Ok(None);
     };
-    let Some(begin) = the(toks, Terminal::LeftBrace, brace) else {
+    let Some((braced, next)) = braced(alloc, toks, brace)? else {
         return Ok(None);
     };
-    let Some((body, close)) = body(alloc, toks, begin)? else {
-        return Ok(None);
-    };
-    let Some(next) = the(toks, Terminal::RightBrace, close) else {
-        return Ok(None);
-    };
+    let (body, close) = braced;
     let define = Boxed::new(
         alloc,
         Define {
@@ -245,4 +241,21 @@ fn define(
         },
     )?;
     Ok(Some((Entity::Define(define), next)))
+}
+
+/// `'{' first block* '}'`: the body, and the place of the closing brace.
+fn braced(alloc: Global, toks: &[Terminal], at: u32) -> Result<Option<((Body, u32), u32)>, NoMemory>
+    requires few { length toks.now < 2 ^ 32 }
+    ensures { IfOk result (λ r. Longest (spec.braced toks.now) at r) }
+{
+    let Some(begin) = the(toks, Terminal::LeftBrace, at) else {
+        return Ok(None);
+    };
+    let Some((body, close)) = body(alloc, toks, begin)? else {
+        return Ok(None);
+    };
+    let Some(next) = the(toks, Terminal::RightBrace, close) else {
+        return Ok(None);
+    };
+    Ok(Some(((body, close), next)))
 }

@@ -132,8 +132,8 @@ fn typed(alloc: Global, toks: &[Terminal], at: u32) -> Result<Option<(Contents, 
         return Ok(None);
     };
     let (initial, behind) = initial(alloc, toks, value)?;
-    let (tails, last) = gtails(alloc, toks, behind)?;
-    let (groups, next) = leaves(alloc, toks, Terminal::Group, last)?;
+    let (ending, next) = behind_initial(alloc, toks, behind)?;
+    let (tails, groups) = ending;
     Ok(Some((
         Contents {
             ty: kind,
@@ -143,6 +143,20 @@ fn typed(alloc: Global, toks: &[Terminal], at: u32) -> Result<Option<(Contents, 
         },
         next,
     )))
+}
+
+/// `(',' gtail)* Group*`
+fn behind_initial(
+    alloc: Global,
+    toks: &[Terminal],
+    at: u32,
+) -> Result<((Items<Gtail>, Items<Leaf>), u32), NoMemory>
+    requires few { length toks.now < 2 ^ 32 }
+    ensures { IfOk result (λ r. Longest (spec.behind_initial toks.now) at (Some r)) }
+{
+    let (tails, last) = gtails(alloc, toks, at)?;
+    let (groups, next) = leaves(alloc, toks, Terminal::Group, last)?;
+    Ok(((tails, groups), next))
 }
 
 /// Whether the name of the next entity stands here: a global, and `=` directly behind it.

@@ -7,9 +7,5 @@ mod entities;
 mod globals;
 mod headers;
 mod parse;
-#[cfg(test)]
-mod tests;
-#[cfg(test)]
-mod tests_headers;
 
 pub use parse::parse_module;

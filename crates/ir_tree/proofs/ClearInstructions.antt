@@ -13,10 +13,14 @@ use Rattle.ir_tree.specs.declared.attributes.Rattr.{Rattr}
 use Rattle.ir_tree.specs.declared.attributes.Word.{Word}
 use Rattle.ir_tree.specs.declared.instructions.Arm.{Arm}
 use Rattle.ir_tree.specs.declared.instructions.Arg.{Arg}
+use Rattle.ir_tree.specs.declared.instructions.Callee.{Callee}
+use Rattle.ir_tree.specs.declared.instructions.Arguments.{Arguments}
+use Rattle.ir_tree.specs.declared.instructions.Called.{Called}
 use Rattle.ir_tree.specs.declared.instructions.Call.{Call}
 use Rattle.ir_tree.specs.declared.instructions.Clause.{Clause}
 use Rattle.ir_tree.specs.declared.instructions.Instr.{Instr}
 use Rattle.ir_tree.specs.declared.instructions.Instr.TheVariants as instr_is
+use Rattle.ir_tree.specs.declared.instructions.Invoke.{Invoke}
 use Rattle.ir_tree.specs.declared.instructions.Case.{Case}
 use Rattle.ir_tree.specs.declared.instructions.Term.{Term}
 use Rattle.ir_tree.specs.declared.instructions.Term.TheVariants as term_is
@@ -24,7 +28,7 @@ use Rattle.ir_tree.specs.Steps.{Step, ◌⨾◌, the, leaf, many, some, optional
 use Rattle.ir_tree.specs.Types.{ty}
 use Rattle.ir_tree.specs.Constants.{iflag, gepflag}
 use Rattle.ir_tree.specs.Values.{value, tvalue}
-use Rattle.ir_tree.specs.Instructions.{binop, castop, volatile, alignment, target, arm, arg, clause, call, instr, invoke, case, term}
+use Rattle.ir_tree.specs.Instructions.{binop, castop, volatile, alignment, target, arm, arg, clause, callee, arguments, called, call, instr, invoke, case, term}
 use Rattle.ir_tree.proofs.Clear.{pair, choice, barred_reads}
 use Rattle.ir_tree.proofs.Known.{Known, firsts, leaf_of, set_of, the_of, pair_of, choice_of, optional_of, many_of, some_of, next_of, listed_of, separated_of, shape_of}
 use Rattle.ir_tree.proofs.ClearTypes.{ty_of, ftype_of}
@@ -85,8 +89,38 @@ module _ (toks : List Terminal) where
   abbrev pub clause_of : Known toks false (clause toks)
   clause_of = shape_of (λ (x : ℕ × Tconst). record { word = x.0; value = x.1 }) (λ t a b e. ((t.word, t.value), (refl, e))) (pair_of (leaf_of k.ClauseWord) (tconst_of toks) refl)
 
+  abbrev CalleeShape : Type 0
+  CalleeShape = Option Cc × (List Rattr × (Ty × (Option Ftype × Value)))
+
+  abbrev callee_back : CalleeShape → Callee
+  callee_back (convention, (words, (kind, (params, of)))) = record { cc = convention; result_words = words; result = kind; params = params; value = of }
+
+  abbrev pub callee_of : Known toks false (callee toks)
+  callee_of =
+      shape_of callee_back (λ t a b e. ((t.cc, (t.result_words, (t.result, (t.params, t.value)))), (refl, e)))
+      (pair_of (optional_of (cc_of toks))
+      (pair_of (many_of (rattr_of toks) refl) (pair_of (ty_of toks) (pair_of (optional_of (ftype_of toks)) (value_of toks) refl) refl) refl) refl)
+
+  abbrev ArgumentsShape : Type 0
+  ArgumentsShape = Unit {0} × (List Arg × (ℕ × List Word))
+
+  abbrev arguments_back : ArgumentsShape → Arguments
+  arguments_back (_, (args, (close, attributes))) = record { args = args; close = close; attributes = attributes }
+
+  abbrev pub arguments_of : Known toks false (arguments toks)
+  arguments_of =
+      shape_of arguments_back (λ t a b e. ((tt, (t.args, (t.close, t.attributes))), (refl, e)))
+      (pair_of (the_of k.LeftParen) (pair_of (separated_of arg_of refl) (pair_of (leaf_of k.RightParen) (many_of (word_of toks) refl) refl) refl) refl)
+
+  abbrev pub called_of : Known toks false (called toks)
+  called_of =
+      shape_of (λ (x : Callee × Arguments). record { callee = x.0; arguments = x.1 }) (λ t a b e. ((t.callee, t.arguments), (refl, e)))
+      (pair_of callee_of arguments_of refl)
+
   abbrev pub call_of : Known toks false (call toks)
-  call_of = shape_of (λ (x : (Option ℕ) × (ℕ × ((Option Cc) × ((List Rattr) × (Ty × ((Option Ftype) × (Value × ((Unit {0}) × ((List Arg) × (ℕ × ((List Word)))))))))))). record { tail = x.0; op = x.1.0; cc = x.1.1.0; result_words = x.1.1.1.0; result = x.1.1.1.1.0; params = x.1.1.1.1.1.0; callee = x.1.1.1.1.1.1.0; args = x.1.1.1.1.1.1.1.1.0; close = x.1.1.1.1.1.1.1.1.1.0; attributes = x.1.1.1.1.1.1.1.1.1.1 }) (λ t a b e. ((t.tail, (t.op, (t.cc, (t.result_words, (t.result, (t.params, (t.callee, (tt, (t.args, (t.close, t.attributes)))))))))), (refl, e))) (pair_of (optional_of (leaf_of k.Tail)) (pair_of (leaf_of k.Call) (pair_of (optional_of (cc_of toks)) (pair_of (many_of (rattr_of toks) refl) (pair_of (ty_of toks) (pair_of (optional_of (ftype_of toks)) (pair_of (value_of toks) (pair_of (the_of k.LeftParen) (pair_of (separated_of arg_of refl) (pair_of (leaf_of k.RightParen) (many_of (word_of toks) refl) refl) refl) refl) refl) refl) refl) refl) refl) refl) refl)
+  call_of =
+      shape_of (λ (x : Option ℕ × (ℕ × Called)). record { tail = x.0; op = x.1.0; called = x.1.1 }) (λ t a b e. ((t.tail, (t.op, t.called)), (refl, e)))
+      (pair_of (optional_of (leaf_of k.Tail)) (pair_of (leaf_of k.Call) called_of refl) refl)
 
   abbrev pub instr_shape : InstrShape → Step
   instr_shape = choice (pair (binop toks) (pair (many (iflag toks)) (pair (ty toks) (pair (value toks) (pair (λ _. the toks k.Comma) (value toks)))))) (choice (pair (leaf toks k.Icmp) (pair (many (iflag toks)) (pair (leaf toks k.Pred) (pair (ty toks) (pair (value toks) (pair (λ _. the toks k.Comma) (value toks))))))) (choice (pair (castop toks) (pair (many (iflag toks)) (pair (tvalue toks) (pair (λ _. the toks k.To) (ty toks))))) (choice (pair (leaf toks k.Select) (pair (tvalue toks) (pair (λ _. the toks k.Comma) (pair (tvalue toks) (pair (λ _. the toks k.Comma) (tvalue toks)))))) (choice (pair (leaf toks k.Freeze) (tvalue toks)) (choice (pair (leaf toks k.Phi) (pair (ty toks) (listed toks (arm toks)))) (choice (pair (leaf toks k.Alloca) (pair (ty toks) (pair (optional (next toks (tvalue toks))) (alignment toks)))) (choice (pair (leaf toks k.Load) (pair (volatile toks) (pair (ty toks) (pair (λ _. the toks k.Comma) (pair (tvalue toks) (alignment toks)))))) (choice (pair (leaf toks k.Store) (pair (volatile toks) (pair (tvalue toks) (pair (λ _. the toks k.Comma) (pair (tvalue toks) (alignment toks)))))) (choice (pair (leaf toks k.GetElementPtr) (pair (many (gepflag toks)) (pair (ty toks) (some (next toks (tvalue toks)))))) (choice (call toks) (pair (leaf toks k.LandingPad) (pair (ty toks) (choice (pair (leaf toks k.Cleanup) (many (clause toks))) (some (clause toks)))))))))))))))
@@ -109,8 +143,17 @@ module _ (toks : List Terminal) where
   abbrev pub instr_of : Known toks false (instr toks)
   instr_of = shape_of instr_back instr_view (choice_of (pair_of (set_of (k.ConstBinop ∷ k.Binop ∷ [])) (pair_of (many_of (iflag_of toks) refl) (pair_of (ty_of toks) (pair_of (value_of toks) (pair_of (the_of k.Comma) (value_of toks) refl) refl) refl) refl) refl) (choice_of (pair_of (leaf_of k.Icmp) (pair_of (many_of (iflag_of toks) refl) (pair_of (leaf_of k.Pred) (pair_of (ty_of toks) (pair_of (value_of toks) (pair_of (the_of k.Comma) (value_of toks) refl) refl) refl) refl) refl) refl) (choice_of (pair_of (set_of (k.ConstCast ∷ k.Cast ∷ [])) (pair_of (many_of (iflag_of toks) refl) (pair_of (tvalue_of toks) (pair_of (the_of k.To) (ty_of toks) refl) refl) refl) refl) (choice_of (pair_of (leaf_of k.Select) (pair_of (tvalue_of toks) (pair_of (the_of k.Comma) (pair_of (tvalue_of toks) (pair_of (the_of k.Comma) (tvalue_of toks) refl) refl) refl) refl) refl) (choice_of (pair_of (leaf_of k.Freeze) (tvalue_of toks) refl) (choice_of (pair_of (leaf_of k.Phi) (pair_of (ty_of toks) (listed_of arm_of refl) refl) refl) (choice_of (pair_of (leaf_of k.Alloca) (pair_of (ty_of toks) (pair_of (optional_of (next_of (tvalue_of toks))) (optional_of (next_of aligned_of)) refl) refl) refl) (choice_of (pair_of (leaf_of k.Load) (pair_of (optional_of (leaf_of k.Volatile)) (pair_of (ty_of toks) (pair_of (the_of k.Comma) (pair_of (tvalue_of toks) (optional_of (next_of aligned_of)) refl) refl) refl) refl) refl) (choice_of (pair_of (leaf_of k.Store) (pair_of (optional_of (leaf_of k.Volatile)) (pair_of (tvalue_of toks) (pair_of (the_of k.Comma) (pair_of (tvalue_of toks) (optional_of (next_of aligned_of)) refl) refl) refl) refl) refl) (choice_of (pair_of (leaf_of k.GetElementPtr) (pair_of (many_of (gepflag_known toks) refl) (pair_of (ty_of toks) (some_of (next_of (tvalue_of toks)) refl) refl) refl) refl) (choice_of call_of (pair_of (leaf_of k.LandingPad) (pair_of (ty_of toks) (choice_of (pair_of (leaf_of k.Cleanup) (many_of clause_of refl) refl) (some_of clause_of refl) refl) refl) refl) refl) refl) refl) refl) refl) refl) refl) refl) refl) refl) refl)
 
+  abbrev InvokeShape : Type 0
+  InvokeShape = ℕ × (Called × (Unit {0} × (ℕ × (Unit {0} × ℕ))))
+
+  abbrev invoke_back : InvokeShape → Invoke
+  invoke_back (op, (what, (_, (normal, (_, unwind))))) = record { op = op; called = what; normal = normal; unwind = unwind }
+
   abbrev pub invoke_of : Known toks false (invoke toks)
-  invoke_of = shape_of (λ (x : ℕ × ((Option Cc) × ((List Rattr) × (Ty × ((Option Ftype) × (Value × ((Unit {0}) × ((List Arg) × (ℕ × ((List Word) × ((Unit {0}) × (ℕ × ((Unit {0}) × ℕ))))))))))))). record { op = x.0; cc = x.1.0; result_words = x.1.1.0; result = x.1.1.1.0; params = x.1.1.1.1.0; callee = x.1.1.1.1.1.0; args = x.1.1.1.1.1.1.1.0; close = x.1.1.1.1.1.1.1.1.0; attributes = x.1.1.1.1.1.1.1.1.1.0; normal = x.1.1.1.1.1.1.1.1.1.1.1.0; unwind = x.1.1.1.1.1.1.1.1.1.1.1.1.1 }) (λ t a b e. ((t.op, (t.cc, (t.result_words, (t.result, (t.params, (t.callee, (tt, (t.args, (t.close, (t.attributes, (tt, (t.normal, (tt, t.unwind))))))))))))), (refl, e))) (pair_of (leaf_of k.Invoke) (pair_of (optional_of (cc_of toks)) (pair_of (many_of (rattr_of toks) refl) (pair_of (ty_of toks) (pair_of (optional_of (ftype_of toks)) (pair_of (value_of toks) (pair_of (the_of k.LeftParen) (pair_of (separated_of arg_of refl) (pair_of (leaf_of k.RightParen) (pair_of (many_of (word_of toks) refl) (pair_of (the_of k.To) (pair_of target_of (pair_of (the_of k.Unwind) target_of refl) refl) refl) refl) refl) refl) refl) refl) refl) refl) refl) refl) refl)
+  invoke_of =
+      shape_of invoke_back (λ t a b e. ((t.op, (t.called, (tt, (t.normal, (tt, t.unwind))))), (refl, e)))
+      (pair_of (leaf_of k.Invoke) (pair_of called_of (pair_of (the_of k.To) (pair_of target_of (pair_of (the_of k.Unwind) target_of refl) refl) refl) refl)
+      refl)
 
   abbrev pub case_of : Known toks false (case toks)
   case_of = shape_of (λ (x : Ty × (ℕ × ((Unit {0}) × ℕ))). record { ty = x.0; value = x.1.0; to = x.1.1.1 }) (λ t a b e. ((t.ty, (t.value, (tt, t.to))), (refl, e))) (pair_of (ty_of toks) (pair_of (leaf_of k.Int) (pair_of (the_of k.Comma) target_of refl) refl) refl)

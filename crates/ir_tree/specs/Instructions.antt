@@ -4,6 +4,9 @@ use Rattle.ir_tree.specs.declared.terminal.Terminal.{Terminal}
 use Rattle.ir_tree.specs.declared.terminal.Terminal.TheVariants as k
 use Rattle.ir_tree.specs.declared.instructions.Arm.{Arm}
 use Rattle.ir_tree.specs.declared.instructions.Arg.{Arg}
+use Rattle.ir_tree.specs.declared.instructions.Callee.{Callee}
+use Rattle.ir_tree.specs.declared.instructions.Arguments.{Arguments}
+use Rattle.ir_tree.specs.declared.instructions.Called.{Called}
 use Rattle.ir_tree.specs.declared.instructions.Call.{Call}
 use Rattle.ir_tree.specs.declared.instructions.Clause.{Clause}
 use Rattle.ir_tree.specs.declared.instructions.Instr.{Instr}
@@ -44,8 +47,20 @@ arg toks x = ty toks x.ty ⨾ many (rattr toks) x.words ⨾ value toks x.value
 abbrev pub clause : List Terminal → Clause → Step
 clause toks x = leaf toks k.ClauseWord x.word ⨾ tconst toks x.value
 
+-- what is called: `[cc] rattr* (type | ftype) value`
+abbrev pub callee : List Terminal → Callee → Step
+callee toks x = optional (cc toks) x.cc ⨾ many (rattr toks) x.result_words ⨾ ty toks x.result ⨾ optional (ftype toks) x.params ⨾ value toks x.value
+
+-- what is passed to it: `'(' arg,* ')' (fattr | Group)*`
+abbrev pub arguments : List Terminal → Arguments → Step
+arguments toks x = the toks k.LeftParen ⨾ separated toks (arg toks) x.args ⨾ leaf toks k.RightParen x.close ⨾ many (word toks) x.attributes
+
+-- what a call and an invoke have in common
+abbrev pub called : List Terminal → Called → Step
+called toks x = callee toks x.callee ⨾ arguments toks x.arguments
+
 abbrev pub call : List Terminal → Call → Step
-call toks x = optional (leaf toks k.Tail) x.tail ⨾ leaf toks k.Call x.op ⨾ optional (cc toks) x.cc ⨾ many (rattr toks) x.result_words ⨾ ty toks x.result ⨾ optional (ftype toks) x.params ⨾ value toks x.callee ⨾ the toks k.LeftParen ⨾ separated toks (arg toks) x.args ⨾ leaf toks k.RightParen x.close ⨾ many (word toks) x.attributes
+call toks x = optional (leaf toks k.Tail) x.tail ⨾ leaf toks k.Call x.op ⨾ called toks x.called
 
 abbrev pub instr : List Terminal → Instr → Step
 instr toks (instr_of.Binop op flags kind left right) = binop toks op ⨾ many (iflag toks) flags ⨾ ty toks kind ⨾ value toks left ⨾ the toks k.Comma ⨾ value toks right
@@ -63,7 +78,7 @@ instr toks (instr_of.Cleanup op kind cleanup clauses) = leaf toks k.LandingPad o
 instr toks (instr_of.LandingPad op kind clauses) = leaf toks k.LandingPad op ⨾ ty toks kind ⨾ some (clause toks) clauses
 
 abbrev pub invoke : List Terminal → Invoke → Step
-invoke toks x = leaf toks k.Invoke x.op ⨾ optional (cc toks) x.cc ⨾ many (rattr toks) x.result_words ⨾ ty toks x.result ⨾ optional (ftype toks) x.params ⨾ value toks x.callee ⨾ the toks k.LeftParen ⨾ separated toks (arg toks) x.args ⨾ leaf toks k.RightParen x.close ⨾ many (word toks) x.attributes ⨾ the toks k.To ⨾ target toks x.normal ⨾ the toks k.Unwind ⨾ target toks x.unwind
+invoke toks x = leaf toks k.Invoke x.op ⨾ called toks x.called ⨾ the toks k.To ⨾ target toks x.normal ⨾ the toks k.Unwind ⨾ target toks x.unwind
 
 abbrev pub case : List Terminal → Case → Step
 case toks x = ty toks x.ty ⨾ leaf toks k.Int x.value ⨾ the toks k.Comma ⨾ target toks x.to

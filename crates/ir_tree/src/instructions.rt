@@ -59,20 +59,38 @@ pub struct Arg {
     pub value: Value,
 }
 
-/// `['tail' | 'notail'] 'call' [cc] rattr* (type | ftype) value '(' arg,* ')' (fattr | Group)*`
+/// `callee`: `[cc] rattr* (type | ftype) value`
 #[derive(Drop)]
-pub struct Call {
-    pub tail: Option<Leaf>,
-    pub op: Leaf,
+pub struct Callee {
     pub cc: Option<Cc>,
     pub result_words: Items<Rattr>,
     pub result: Ty,
     pub params: Option<Ftype>,
-    pub callee: Value,
+    pub value: Value,
+}
+
+/// `arguments`: `'(' arg,* ')' (fattr | Group)*`
+#[derive(Drop)]
+pub struct Arguments {
     pub args: Items<Arg>,
     /// The closing parenthesis.
     pub close: Leaf,
     pub attributes: Items<Word>,
+}
+
+/// `called`: `callee arguments`, which a call and an invoke have in common
+#[derive(Drop)]
+pub struct Called {
+    pub callee: Callee,
+    pub arguments: Arguments,
+}
+
+/// `['tail' | 'notail'] 'call' called`
+#[derive(Drop)]
+pub struct Call {
+    pub tail: Option<Leaf>,
+    pub op: Leaf,
+    pub called: Called,
 }
 
 /// `clause`
@@ -146,19 +164,11 @@ pub enum Instr {
     },
 }
 
-/// `invoke`
+/// `'invoke' called 'to' 'label' Local 'unwind' 'label' Local`
 #[derive(Drop)]
 pub struct Invoke {
     pub op: Leaf,
-    pub cc: Option<Cc>,
-    pub result_words: Items<Rattr>,
-    pub result: Ty,
-    pub params: Option<Ftype>,
-    pub callee: Value,
-    pub args: Items<Arg>,
-    /// The closing parenthesis.
-    pub close: Leaf,
-    pub attributes: Items<Word>,
+    pub called: Called,
     pub normal: Leaf,
     pub unwind: Leaf,
 }

@@ -23,7 +23,8 @@ pub use constants::{Const, Gepflag, Tconst};
 pub use entities::{Declare, Define, Entity, GlobalVar, Gtail, Tree, TypeBody};
 pub use headers::{Ftail, Header, Param, Params};
 pub use instructions::{
-    Alloca, Arg, Arm, Call, Case, Clause, Icmp, Instr, Invoke, Select, Store, Switch, Term,
+    Alloca, Arg, Arguments, Arm, Call, Called, Callee, Case, Clause, Icmp, Instr, Invoke, Select,
+    Store, Switch, Term,
 };
 pub use laws::{one_tree, some_tree};
 pub use leaf::Leaf;
@@ -32,6 +33,3 @@ pub use terminal::Terminal;
 pub use types::{Ftype, Ty};
 pub use values::{Tvalue, Value};
 pub use words::WORDS;
-
-#[cfg(test)]
-mod tests;

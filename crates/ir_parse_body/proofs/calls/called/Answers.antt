@@ -1,19 +1,20 @@
 use Rattle.std.proofs.Common.{subst}
 use Rattle.ir_tree.specs.Steps.{Longest}
-use Rattle.ir_tree.specs.Types.{ty}
-use Rattle.ir_tree.specs.Values.{value}
-use Rattle.ir_parse_body.proofs.LongestCalls.{called_no_type, called_no_value, called_ends}
+use Rattle.ir_tree.specs.Instructions.{callee, arguments}
+use Rattle.ir_parse_body.proofs.LongestCalls.{called_no_callee, called_no_arguments, called_ends}
 use Rattle.ir_parse_body.proofs.calls.called.Goals as goal
 
 pub returns-in_default : goal.returns-in_default
-returns-in_default c = let ts = c.args.toks.now in called_no_type ts c.args.at c.calling_convention-cc.result.1 c.calling_convention-cc.result.0 c.calling_convention-cc.ensures c.in_ok-result_words.kind c.in_ok-result_words.result_words c.in_ok-result_words.ensures (subst (Longest (ty ts) c.in_ok-result_words.kind) c.in_default.is c.in_ok-result.ensures)
+returns-in_default c = called_no_callee c.args.toks.now c.args.at (subst (Longest (callee c.args.toks.now) c.args.at) c.in_default.is c.in_ok-callee.ensures)
 
 pub returns-in_default-2 : goal.returns-in_default-2
 returns-in_default-2 c =
     let ts = c.args.toks.now in
-    called_no_value ts c.args.at c.calling_convention-cc.result.1 c.calling_convention-cc.result.0 c.calling_convention-cc.ensures c.in_ok-result_words.kind c.in_ok-result_words.result_words c.in_ok-result_words.ensures c.in-Some.result c.in-Some.behind (subst (Longest (ty ts) c.in_ok-result_words.kind) c.in-Some.is c.in_ok-result.ensures) c.in_ok-params.params c.in_ok-params.named c.in_ok-params.ensures (subst (Longest (value ts) c.in_ok-params.named) c.in_default-2.is c.in_ok-callee.ensures)
+    called_no_arguments ts c.args.at c.in-Some.open c.in-Some.callee (subst (Longest (callee ts) c.args.at) c.in-Some.is c.in_ok-callee.ensures)
+    (subst (Longest (arguments ts) c.in-Some.open) c.in_default-2.is c.in_ok-arguments.ensures)
 
 pub returns : goal.returns
 returns c =
     let ts = c.args.toks.now in
-    called_ends ts c.args.at c.calling_convention-cc.result.1 c.calling_convention-cc.result.0 c.calling_convention-cc.ensures c.in_ok-result_words.kind c.in_ok-result_words.result_words c.in_ok-result_words.ensures c.in-Some.result c.in-Some.behind (subst (Longest (ty ts) c.in_ok-result_words.kind) c.in-Some.is c.in_ok-result.ensures) c.in_ok-params.params c.in_ok-params.named c.in_ok-params.ensures c.in-Some-2.callee c.in-Some-2.next (subst (Longest (value ts) c.in_ok-params.named) c.in-Some-2.is c.in_ok-callee.ensures)
+    called_ends ts c.args.at c.in-Some.open c.in-Some.callee (subst (Longest (callee ts) c.args.at) c.in-Some.is c.in_ok-callee.ensures) c.in-Some-2.arguments
+    c.in-Some-2.next (subst (Longest (arguments ts) c.in-Some.open) c.in-Some-2.is c.in_ok-arguments.ensures)

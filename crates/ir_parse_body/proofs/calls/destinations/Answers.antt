@@ -1,7 +1,7 @@
-use Rattle.std.proofs.Common.{None, sym, subst}
+use Rattle.std.proofs.Common.{sym, subst}
 use Rattle.ir_tree.specs.Steps.{Longest}
 use Rattle.ir_tree.specs.Instructions.{target}
-use Rattle.ir_parse_body.specs.Callee.{destinations}
+use Rattle.ir_parse_body.specs.Terms.{destinations}
 use Rattle.ir_parse_body.proofs.LongestCalls.{destinations_no_unwind}
 use Rattle.ir_parse_body.proofs.calls.destinations.Goals as goal
 

@@ -2,7 +2,7 @@ use Rattle.std.proofs.Common.{subst}
 use Rattle.ir_tree.specs.Steps.{Longest}
 use Rattle.ir_tree.specs.Types.{ftype}
 use Rattle.ir_tree.proofs.ClearTypes.{ftype_of}
-use Rattle.ir_parse_body.proofs.LongestCalls.{optional_some, optional_none}
+use Rattle.ir_parse_parts.proofs.Longest.{optional_some}
 use Rattle.ir_parse_body.proofs.calls.parameters.Goals as goal
 
 pub returns-in-Some : goal.returns-in-Some

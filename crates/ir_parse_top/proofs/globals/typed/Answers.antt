@@ -10,4 +10,5 @@ returns-in_default c = contents_no_type c.args.toks.now c.args.at (subst (Longes
 pub returns : goal.returns
 returns c =
     let ts = c.args.toks.now in
-    contents_ends ts c.args.at c.in-Some.value c.in_ok-initial.behind c.in_ok-tails.last c.in_ok-groups.next c.in-Some.kind c.in_ok-initial.initial c.in_ok-tails.tails c.in_ok-groups.groups (subst (Longest (ty ts) c.args.at) c.in-Some.is c.in_ok-kind.ensures) c.in_ok-initial.ensures c.in_ok-tails.ensures c.in_ok-groups.ensures
+    contents_ends ts c.args.at c.in-Some.value c.in_ok-initial.behind c.in_ok-ending.next c.in-Some.kind c.in_ok-initial.initial c.in_ok-ending.ending
+    (subst (Longest (ty ts) c.args.at) c.in-Some.is c.in_ok-kind.ensures) c.in_ok-initial.ensures c.in_ok-ending.ensures
