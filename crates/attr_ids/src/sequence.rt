@@ -113,26 +113,3 @@ impl<T: Drop> Sequence<T> {
         self.items[at] = item;
     }
 }
-
-#[cfg(test)]
-mod tests {
-    use super::*;
-    use std::test::Fail;
-
-    #[test]
-    fn a_list_gives_back_what_it_was_given(rt: HostRuntime) -> Result<(), Fail> {
-        let mut words = WordList::new(rt.alloc());
-        assert!(rt; words.is_empty());
-        words.push(7)?;
-        words.push(9)?;
-        words.set(0, 8);
-        assert_eq!(rt; words.as_slice(), [8, 9].as_slice());
-        assert_eq!(rt; words.get(1).copied(), Some(9));
-        assert_eq!(rt; words.get(2).copied(), None);
-        let words = WordList::from_vec(words.into_vec());
-        assert_eq!(rt; words.len(), 2);
-        let text = Text::from_slice(rt.alloc(), b"ab")?;
-        assert_eq!(rt; text.as_slice(), b"ab".as_slice());
-        Ok(())
-    }
-}

@@ -5,7 +5,5 @@
 
 mod closing;
 mod sweep;
-#[cfg(test)]
-mod tests;
 
 pub use closing::close;

@@ -4,7 +4,8 @@ use Rattle.std.proofs.lemmas.List.Sums.{sum_by_more, sum_by-take-le, sum_by-cons
 use Rattle.std.proofs.lemmas.List.Elements.{All-head, All-tail}
 use Rattle.std.proofs.lemmas.Nat.{ones-le}
 use Rattle.std.proofs.lemmas.Slice.Zip.{get_or-zip, length-zip}
-use Rattle.dep_graph.specs.declared.graph.Row.{Row}
+use Rattle.lattice_words.specs.declared.word.TheConstants.{FACT_BITS}
+use Rattle.dep_graph.specs.Row.{Row}
 use Rattle.dep_graph.specs.Graph.{empty_row, row_at, edge_count, retaken, budget_of, IsGraphOf}
 use Rattle.rule_terms.specs.System.{System, IsSystem}
 
@@ -39,16 +40,16 @@ cost_whole masks graph long =
     let all : length (zip masks graph) ≤ length masks = omega (arith, length-zip masks graph) in
     ap (sum_by (λ (x : ℕ × Row). retaken x.0 x.1)) (take_all (length masks) (zip masks graph) all)
 
--- masks of 47 bits
-whole_cost-le : (masks : List ℕ) (graph : List Row) → All (λ mask. mask < 2 ^ 47) masks → sum_by (λ x. retaken x.0 x.1) (zip masks graph) ≤ 47 * edge_count graph
+-- masks of facts
+whole_cost-le : (masks : List ℕ) (graph : List Row) → All (λ mask. mask < 2 ^ FACT_BITS) masks → sum_by (λ x. retaken x.0 x.1) (zip masks graph) ≤ FACT_BITS * edge_count graph
 whole_cost-le [] graph facts = omega arith
 whole_cost-le (mask ∷ masks) [] facts = omega arith
 whole_cost-le (mask ∷ masks) (row ∷ graph) facts =
-    let bits : count_ones mask ≤ 47 = ones-le 47 mask (All-head (λ (m : ℕ). m < 2 ^ 47) mask masks facts) in
-    let first : retaken mask row ≤ 47 * length row.dependents = mul-le-mul bits (le_refl (length row.dependents)) in
+    let bits : count_ones mask ≤ FACT_BITS = ones-le FACT_BITS mask (All-head (λ (m : ℕ). m < 2 ^ FACT_BITS) mask masks facts) in
+    let first : retaken mask row ≤ FACT_BITS * length row.dependents = mul-le-mul bits (le_refl (length row.dependents)) in
     let cost = sum_by-cons (λ (x : ℕ × Row). retaken x.0 x.1) (mask, row) (zip masks graph) in
     let edges = sum_by-cons (λ (r : Row). length r.dependents) row graph in
-    omega (arith, first, cost, edges, whole_cost-le masks graph (All-tail (λ (m : ℕ). m < 2 ^ 47) mask masks facts))
+    omega (arith, first, cost, edges, whole_cost-le masks graph (All-tail (λ (m : ℕ). m < 2 ^ FACT_BITS) mask masks facts))
 
 pub budget-small : (s : System) (graph : List Row) → IsSystem s → IsGraphOf s graph → length s.masks ≤ 4000000 → budget_of s graph < 2000000000
 budget-small s graph system is few = omega (arith, whole_cost-le s.masks graph system.facts, is.few, few)

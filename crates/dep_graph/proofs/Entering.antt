@@ -1,13 +1,14 @@
 -- Entering the inputs of one position, one after another.
-use Rattle.std.proofs.Common.{◌≡◌, ℕ, ◌+◌, ◌<◌, Bool, true, false, cond, if◌then◌else◌, ◌==◌, List, [], ◌∷◌, ◌++◌, length, get_or, set, take, drop, refl, ap, sym, ◌∙◌, arith, inl, inr, length-append, length-set, get_or-set_same, get_or-set_other}
+use Rattle.std.proofs.Common.{◌≡◌, ℕ, ◌+◌, ◌<◌, Bool, true, false, cond, if◌then◌else◌, ◌==◌, List, [], ◌∷◌, ◌++◌, length, get_or, set, take, refl, subst, ap, sym, ◌∙◌, arith, inl, inr, length-append, length-set, get_or-set_same, get_or-set_other}
 use Rattle.std.proofs.lemmas.Bool.Decides.{eqb_tells}
-use Rattle.std.proofs.Math.Seq.{take-append_seam}
 use Rattle.std.proofs.lemmas.List.{take_more}
 use Rattle.std.proofs.lemmas.List.Sums.{sum_by-set}
 use Rattle.attr_ids.specs.declared.ids.PosId.{PosId}
-use Rattle.dep_graph.specs.declared.graph.Row.{Row}
+use Rattle.row_lists.specs.EdgeRow.{EdgeRow, with_edge, row_at as edges_at}
+use Rattle.dep_graph.specs.Row.{Row, shown}
 use Rattle.dep_graph.specs.Graph.{empty_row, row_at, edge_count}
 use Rattle.dep_graph.specs.Rows.{added, entered}
+use Rattle.dep_graph.proofs.Shown.{length-shown, shown_more}
 
 -- one more input: the row of q has d once more where q is that input
 entered_step : Bool → PosId → ℕ → Row → Row
@@ -60,6 +61,17 @@ edge_count-set rows at bits d l =
     let n : length (row.dependents ++ d ∷ []) ≡ length row.dependents + 1 = length-append row.dependents (d ∷ []) in
     omega (arith, e, n)
 
--- a slice of all items of a list that was written is what was written
-pub whole : (xs ys : List Row) (n : ℕ) → n ≡ length ys → length xs ≡ length ys → take n (xs ++ drop (length xs) ys) ≡ xs
-whole xs ys n e same = ap (λ m. take m (xs ++ drop (length xs) ys)) (e ∙ sym same) ∙ take-append_seam xs (drop (length xs) ys)
+-- one more entry in lists of positions and words: as many lists, the rows as far as one input more is entered, one edge more
+pub entered_after : (inputs : List PosId) (reads : ℕ → ℕ) (d : PosId) (before rows next : List EdgeRow) (i at : ℕ) (z : PosId) →
+    i < length inputs → at ≡ (get_or inputs i z).0 → at < length rows →
+    next ≡ set rows at (with_edge (edges_at rows at) d (reads at)) → AreEntered inputs reads d (shown before) (shown rows) i →
+    (length next ≡ length rows) × AreEntered inputs reads d (shown before) (shown next) (i + 1) × (edge_count (shown next) ≡ edge_count (shown rows) + 1)
+entered_after inputs reads d before rows next i at z l is on goes so_far =
+    let place : at < length (shown rows) = omega (arith, on, length-shown rows) in
+    let row : Row = added (row_at (shown rows) at) d (reads at) in
+    let new : shown next ≡ set (shown rows) at row = ap shown goes ∙ shown_more rows at d (reads at) in
+    let more = entered_next inputs reads d (shown before) (shown rows) i at z l is place so_far in (
+      ap length goes ∙ length-set rows at (with_edge (edges_at rows at) d (reads at)),
+      subst (λ rs. AreEntered inputs reads d (shown before) rs (i + 1)) (sym new) more,
+      ap edge_count new ∙ edge_count-set (shown rows) at (reads at) d place,
+    )

@@ -3,3 +3,4 @@ pub mod Edges
 pub mod Entering
 pub mod Naming
 pub mod RowFacts
+pub mod Shown

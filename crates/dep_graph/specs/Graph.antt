@@ -3,7 +3,7 @@ use Rattle.std.specs.Prelude.{◌≡◌, ℕ, zero, suc, ◌+◌, ◌*◌, ◌<�
 use Rattle.attr_ids.specs.declared.ids.PosId.{PosId}
 use Rattle.rule_terms.specs.System.{System, inputs_of}
 use Rattle.rule_terms.specs.Reads.{reads_by}
-use Rattle.dep_graph.specs.declared.graph.Row.{Row}
+use Rattle.dep_graph.specs.Row.{Row}
 use Rattle.dep_graph.specs.declared.invert.TheConstants.{EDGE_LIMIT}
 
 -- the row of a position that no term names

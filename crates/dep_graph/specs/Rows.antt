@@ -1,12 +1,8 @@
--- What holds of every graph that was made.
-use Rattle.std.specs.Prelude.{◌≡◌, ℕ, zero, suc, ◌==◌, if◌then◌else◌, List, [], ◌∷◌, ◌++◌, length, All}
+-- How the rows of a graph are filled.
+use Rattle.std.specs.Prelude.{ℕ, zero, suc, ◌==◌, if◌then◌else◌, List, [], ◌∷◌, ◌++◌}
 use Rattle.attr_ids.specs.declared.ids.PosId.{PosId}
 use Rattle.dep_graph.specs.Graph.{empty_row}
-use Rattle.dep_graph.specs.declared.graph.Row.{Row}
-
--- each row says for each dependent what it reads
-abbrev pub HaveReads : List Row → Type 0
-HaveReads rows = All (λ row. length row.reads ≡ length row.dependents) rows
+use Rattle.dep_graph.specs.Row.{Row}
 
 -- the row with one more dependent
 abbrev pub added : Row → PosId → ℕ → Row

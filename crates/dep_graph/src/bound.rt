@@ -1,7 +1,7 @@
 ghost use Rattle.std.specs.Prelude.{◌≡◌, ◌<◌, ◌≤◌, List, length};
 ghost use Rattle.rule_terms.specs.System.{System as Terms, IsSystem};
 ghost use Rattle.dep_graph.specs.Graph.{budget_of, IsGraphOf};
-ghost use Rattle.dep_graph.specs.declared.graph.Row.{Row as Edges};
+ghost use Rattle.dep_graph.specs.Row.{Row as Edges};
 
 use crate::graph::DepGraph;
 use attr_ids::PosId;

@@ -1,41 +1,33 @@
 ghost use Rattle.std.specs.Prelude.{◌≡◌, ◌<◌, length, slice_index};
 ghost use Rattle.dep_graph.specs.Graph.{row_at};
 
-use attr_ids::{Numbers, PosId, PosList};
+use attr_ids::PosId;
+use row_lists::EdgeRows;
 use std::marker::Model;
 
-/// The positions whose terms name one position, and beside each the bits that it reads of it.
-#[derive(Debug, Drop)]
-pub struct Row {
-    pub dependents: PosList,
-    pub reads: Numbers,
-}
-
-/// For each position of a system, the positions that depend on it.
-#[derive(Debug, Drop)]
+/// For each position of a system, the positions whose terms name it, and beside each the bits that it reads. All lists
+/// lie in one run of memory.
+#[derive(Drop)]
 pub struct DepGraph {
-    pub(crate) rows: Vec<Row>,
+    pub(crate) rows: EdgeRows,
 }
 
 impl Model for DepGraph {
     ghost use Rattle.std.specs.Prelude.{List};
-    ghost use Rattle.dep_graph.specs.Rows.{HaveReads};
-    ghost use Rattle.dep_graph.specs.declared.graph.Row.{Row as Shown};
+    ghost use Rattle.dep_graph.specs.Row.{Row, shown};
 
-    ghost Value = { List Shown };
+    ghost Value = { List Row };
 
-    ghost view = { λ graph. graph.rows.items };
-
-    ghost invariant = { λ graph. HaveReads graph.rows.items };
+    ghost view = { λ graph. shown graph.rows };
 }
 
 impl DepGraph {
     /// The positions whose terms name `p`, each once, by rising number.
-    pub fn of(&self, p: PosId) -> &PosList
+    pub fn of(&self, p: PosId) -> &[PosId]
         requires { p.0 < length self.now }
         ensures { result.now ≡ (row_at self.now p.0).dependents }
     {
-        &self.rows[p.0 as usize].dependents
+        self.rows.positions(p.0 as usize)
     }
 
     /// The bits of `p` that its dependent number `j` reads.
@@ -44,6 +36,6 @@ impl DepGraph {
         requires dependent { j < length (row_at self.now p.0).dependents }
         ensures { result ≡ slice_index (row_at self.now p.0).reads j }
     {
-        self.rows[p.0 as usize].reads.as_slice()[j as usize]
+        self.rows.bits(p.0 as usize)[j as usize]
     }
 }

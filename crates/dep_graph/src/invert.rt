@@ -1,37 +1,20 @@
 ghost use Rattle.std.specs.Prelude.{◌≡◌, ◌<◌, ◌≤◌, ◌↔◌, ◌+◌, ℕ, Err, length, replicate, All, IfOk, OnOk, vec_len};
 ghost use Rattle.rule_terms.specs.System.{inputs_of, IsSystem};
 ghost use Rattle.rule_terms.specs.Reads.{reads_by};
-ghost use Rattle.dep_graph.specs.Graph.{empty_row, row_at, edge_count, edges_of, IsGraphOf};
-ghost use Rattle.dep_graph.specs.Rows.{added, entered, row_below};
+ghost use Rattle.row_lists.specs.EdgeRow.{empty_row as empty_edges};
+ghost use Rattle.dep_graph.specs.Graph.{row_at, edge_count, edges_of, IsGraphOf};
+ghost use Rattle.dep_graph.specs.Row.{shown};
+ghost use Rattle.dep_graph.specs.Rows.{entered, row_below};
 
-use crate::graph::{DepGraph, Row};
+use crate::graph::DepGraph;
 use crate::refusal::GraphRefusal;
-use attr_ids::{NoMemory, Numbers, PosId, PosList};
+use attr_ids::{NoMemory, PosId};
+use row_lists::EdgeRows;
 use rule_terms::System;
 use std::alloc::Global;
 
 /// How many edges a graph has at most.
 pub const EDGE_LIMIT: u64 = 32_000_000;
-
-impl Row {
-    // A row without entries that has room for so many.
-    fn with_room(alloc: Global, count: usize) -> Result<Row, NoMemory>
-        ensures { IfOk result (λ row. row ≡ empty_row) }
-    {
-        Ok(Row {
-            dependents: PosList::from_vec(Vec::with_capacity(alloc, count)?),
-            reads: Numbers::from_vec(Vec::with_capacity(alloc, count)?),
-        })
-    }
-
-    fn add(&mut self, dependent: PosId, reads: u64) -> Result<(), NoMemory>
-        ensures { OnOk result (self.new ≡ added self.old dependent reads) }
-    {
-        self.dependents.push(dependent)?;
-        self.reads.push(reads)?;
-        Ok(())
-    }
-}
 
 // How many edges the graph of the system has.
 fn edges(s: &System) -> u64
@@ -66,37 +49,27 @@ fn counts(alloc: Global, s: &System) -> Result<Vec<u32>, NoMemory>
     Ok(counts)
 }
 
-// A row without entries for each position, with the room that it needs.
-fn empty_rows(alloc: Global, s: &System) -> Result<Vec<Row>, NoMemory>
-    ensures { IfOk result (λ rows. rows.items ≡ replicate (length s.now.masks) empty_row) }
-{
-    let counts = counts(alloc, s)?;
-    let mut rows = Vec::with_capacity(alloc, counts.len())?;
-    for count in &counts {
-        rows.push(Row::with_room(alloc, *count as usize)?)?;
-    }
-    Ok(rows)
-}
-
 // Enters the position `d` into the row of each of its inputs.
-fn enter(rows: &mut [Row], s: &System, d: PosId) -> Result<(), NoMemory>
+fn enter(rows: &mut EdgeRows, s: &System, d: PosId) -> Result<(), NoMemory>
     requires system { IsSystem s.now }
     requires position { d.0 < length s.now.masks }
     requires long { length rows.old ≡ length s.now.masks }
-    ensures rows { OnOk result ((q : ℕ) → q < length rows.old → row_at rows.new q ≡ entered (inputs_of s.now d.0) (reads_by s.now d.0) d (row_at rows.old q) q) }
-    ensures count { OnOk result (edge_count rows.new ≡ edge_count rows.old + length (inputs_of s.now d.0)) }
+    ensures long { OnOk result (length rows.new ≡ length rows.old) }
+    ensures rows { OnOk result ((q : ℕ) → q < length rows.old → row_at (shown rows.new) q ≡ entered (inputs_of s.now d.0) (reads_by s.now d.0) d (row_at (shown rows.old) q) q) }
+    ensures count { OnOk result (edge_count (shown rows.new) ≡ edge_count (shown rows.old) + length (inputs_of s.now d.0)) }
 {
     for (i, q) in s.inputs(d).iter().enumerate() {
-        rows[q.0 as usize].add(d, s.reads(d, i as u32))?;
+        rows.push(q.0 as usize, d, s.reads(d, i as u32))?;
     }
     Ok(())
 }
 
 // Enters all positions, by rising number.
-fn enter_all(rows: &mut [Row], s: &System) -> Result<(), NoMemory>
-    requires { rows.old ≡ replicate (length s.now.masks) empty_row }
-    ensures rows { OnOk result ((q : ℕ) → q < length s.now.masks → row_at rows.new q ≡ row_below (inputs_of s.now) (reads_by s.now) (length s.now.masks) q) }
-    ensures count { OnOk result (edge_count rows.new ≡ edges_of s.now) }
+fn enter_all(rows: &mut EdgeRows, s: &System) -> Result<(), NoMemory>
+    requires { rows.old ≡ replicate (length s.now.masks) empty_edges }
+    ensures long { OnOk result (length rows.new ≡ length s.now.masks) }
+    ensures rows { OnOk result ((q : ℕ) → q < length s.now.masks → row_at (shown rows.new) q ≡ row_below (inputs_of s.now) (reads_by s.now) (length s.now.masks) q) }
+    ensures count { OnOk result (edge_count (shown rows.new) ≡ edges_of s.now) }
 {
     for d in 0..s.count() {
         enter(rows, s, PosId(d))?;
@@ -118,7 +91,8 @@ pub fn dependents(alloc: Global, s: &System) -> Result<DepGraph, GraphRefusal>
     if edges > EDGE_LIMIT {
         return Err(GraphRefusal::TooMany { edges });
     }
-    let mut rows = empty_rows(alloc, s)?;
+    let rooms = counts(alloc, s)?;
+    let mut rows = EdgeRows::with_rooms(alloc, &rooms)?;
     enter_all(&mut rows, s)?;
     Ok(DepGraph { rows })
 }

@@ -8,10 +8,8 @@ mod bound;
 mod graph;
 mod invert;
 mod refusal;
-#[cfg(test)]
-mod tests;
 
 pub use bound::{budget, budget_is_small};
-pub use graph::{DepGraph, Row};
+pub use graph::DepGraph;
 pub use invert::{EDGE_LIMIT, dependents};
 pub use refusal::GraphRefusal;

@@ -8,10 +8,11 @@ use Rattle.std.proofs.lemmas.List.Sums.{sum_by-set, sum_by-cons, get_or-le-sum_b
 use Rattle.std.proofs.lemmas.Nat.Bits.{bit_at_and, bit_at_above}
 use Rattle.std.proofs.lemmas.Option.{get_or_from_slice_get, slice_get_within}
 use Rattle.attr_ids.specs.declared.ids.PosId.{PosId}
+use Rattle.lattice_words.specs.declared.word.TheConstants.{DIRTY, FACT_BITS}
 use Rattle.rule_terms.specs.Names.{has_name}
 use Rattle.rule_terms.specs.Slots.{input_at}
 use Rattle.rule_terms.specs.System.{System, IsSystem, inputs_of, value_at}
-use Rattle.dep_graph.specs.declared.graph.Row.{Row}
+use Rattle.dep_graph.specs.Row.{Row}
 use Rattle.dep_graph.specs.Graph.{row_at, retaken, budget_of, IsGraphOf}
 use Rattle.fix_core.specs.declared.event.CoreEvent.{CoreEvent}
 use Rattle.fix_core.specs.declared.event.CoreEvent.TheVariants.{Take, Look, Cut, Tell, Clear}
@@ -99,7 +100,7 @@ module _ (s : System) (g : List Row) (of : IsGraphOf s g) (workers : ℕ) (c : C
         mask_holds : (q : ℕ) (i : ℕ) → bit_at (facts_at c.words q) i ≤ bit_at (slice_index s.masks q) i
         mask_holds q i = elim (cases_lt i 64) [
           | inl low ↦ inv.within q i low
-          | inr past ↦ omega (arith, bit_at_and (slice_index c.words q) (2 ^ 47 - 1) i, bit_at_above (2 ^ 47 - 1) 47 i (omega arith) (omega arith))
+          | inr past ↦ omega (arith, bit_at_and (slice_index c.words q) (2 ^ FACT_BITS - 1) i, bit_at_above (2 ^ FACT_BITS - 1) FACT_BITS i (omega arith) (omega arith))
         ]
 
   pub tell_counted : (d : PosId) (list : List PosId) → d.0 < length s.masks → seat.mode ≡ Owes list → Contains list d →
@@ -180,19 +181,19 @@ none_of f zero e = refl
 none_of f (suc n) e = omega (arith, sum_by-cons f new_seat (replicate n new_seat), e, none_of f n e)
 
 -- each word is dirty for one seat
-opening_dirty : (workers k : ℕ) (masks : List ℕ) → All (λ mask. mask < 2 ^ 47) masks → sum_by dirty_count (opening_words workers k masks) ≤ length masks
+opening_dirty : (workers k : ℕ) (masks : List ℕ) → All (λ mask. mask < 2 ^ FACT_BITS) masks → sum_by dirty_count (opening_words workers k masks) ≤ length masks
 opening_dirty workers k [] facts = omega arith
 opening_dirty workers k (mask ∷ masks) facts =
-    let small : mask < 2 ^ 47 = All-head (λ (m : ℕ). m < 2 ^ 47) mask masks facts in
-    let clean : mask / 2 ^ 48 ≡ 0 = omega arith in
-    let unset : dirty_at mask (k % workers) ≡ 0 = bit_at_above mask 47 (48 + k % workers) small (omega arith) in
+    let small : mask < 2 ^ FACT_BITS = All-head (λ (m : ℕ). m < 2 ^ FACT_BITS) mask masks facts in
+    let clean : mask / 2 ^ DIRTY ≡ 0 = omega arith in
+    let unset : dirty_at mask (k % workers) ≡ 0 = bit_at_above mask FACT_BITS (DIRTY + k % workers) small (omega arith) in
     omega (
       arith,
       sum_by-cons dirty_count (dirtied mask (k % workers)) (opening_words workers (suc k) masks),
       tell_pays mask (k % workers) 0 true (eq-eqb (dirty_at mask (k % workers)) 0 unset),
       ap count_ones clean,
       ones_zero,
-      opening_dirty workers (suc k) masks (All-tail (λ (m : ℕ). m < 2 ^ 47) mask masks facts),
+      opening_dirty workers (suc k) masks (All-tail (λ (m : ℕ). m < 2 ^ FACT_BITS) mask masks facts),
     )
 
 pub opening_counted : (s : System) (g : List Row) (workers : ℕ) → IsSystem s → AreCounted s g (opening s workers)

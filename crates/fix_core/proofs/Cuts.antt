@@ -14,7 +14,7 @@ use Rattle.rule_terms.specs.System.{System, IsSystem, inputs_of, looked_word, va
 use Rattle.rule_terms.proofs.Greatest.{within_trans}
 use Rattle.rule_terms.proofs.Monotone.{value-within}
 use Rattle.rule_terms.proofs.Naming.{value_in-value_at}
-use Rattle.dep_graph.specs.declared.graph.Row.{Row}
+use Rattle.dep_graph.specs.Row.{Row}
 use Rattle.fix_core.specs.declared.state.CoreState.{CoreState}
 use Rattle.fix_core.specs.declared.state.CoreSeat.{CoreSeat}
 use Rattle.fix_core.specs.declared.state.CoreMode.TheVariants.{Open}

@@ -8,6 +8,7 @@ use Rattle.std.proofs.lemmas.List.{get_or-map, length-map}
 use Rattle.std.proofs.lemmas.List.Elements.{All-set, All-get_or}
 use Rattle.std.proofs.lemmas.Option.{slice_get_within}
 use Rattle.attr_ids.specs.declared.ids.PosId.{PosId}
+use Rattle.lattice_words.specs.declared.word.TheConstants.{FACT_BITS}
 use Rattle.lattice_words.specs.Words.{IsWithin}
 use Rattle.rule_terms.specs.Names.{has_name}
 use Rattle.rule_terms.specs.Reads.{reads_at, reads_by, AgreeOn}
@@ -15,7 +16,7 @@ use Rattle.rule_terms.specs.Slots.{input_at}
 use Rattle.rule_terms.specs.System.{System, IsSystem, inputs_of, terms_at, value, value_at}
 use Rattle.rule_terms.proofs.Local.{value-agrees, value_at-agrees}
 use Rattle.rule_terms.proofs.Naming.{meet-by_names, inputs-has, value_in-value_at}
-use Rattle.dep_graph.specs.declared.graph.Row.{Row}
+use Rattle.dep_graph.specs.Row.{Row}
 use Rattle.dep_graph.specs.Graph.{row_at, IsRow, IsGraphOf}
 use Rattle.fix_core.specs.declared.state.CoreState.{CoreState}
 use Rattle.fix_core.specs.declared.state.CoreSeat.{CoreSeat}
@@ -208,7 +209,7 @@ module _ (s : System) (g : List Row) (workers : ℕ) (few : workers ≤ 16) (is 
   cut_kept = record {
     words = length-set c.words p.0 left ∙ inv.words;
     fits = All-set (λ (m : ℕ). m < 2 ^ 64) c.words p.0 left
-        (let had : word < 2 ^ 64 = All-get_or (λ (m : ℕ). m < 2 ^ 64) c.words p.0 0 (omega (arith, inv.words, old.place)) inv.fits in omega (arith, and_le_l word (bit_or new (2 ^ 64 - 2 ^ 47)), had)) inv.fits;
+        (let had : word < 2 ^ 64 = All-get_or (λ (m : ℕ). m < 2 ^ 64) c.words p.0 0 (omega (arith, inv.words, old.place)) inv.fits in omega (arith, and_le_l word (bit_or new (2 ^ 64 - 2 ^ FACT_BITS)), had)) inv.fits;
     seats = length-set c.seats w v ∙ inv.seats;
     within = facts_masked;
     above = facts_above;

@@ -10,11 +10,12 @@ use Rattle.std.proofs.lemmas.List.Elements.{All-set, All-get_or, Contains-push_c
 use Rattle.std.proofs.lemmas.List.Kept.{AllPairs-filter}
 use Rattle.std.proofs.lemmas.Option.{slice_get_within, same_Some}
 use Rattle.attr_ids.specs.declared.ids.PosId.{PosId}
+use Rattle.lattice_words.specs.declared.word.TheConstants.{DIRTY}
 use Rattle.lattice_words.specs.Words.{IsWithin}
 use Rattle.rule_terms.specs.Reads.{reads_at, AgreeOn}
 use Rattle.rule_terms.specs.Slots.{input_at}
 use Rattle.rule_terms.specs.System.{System, inputs_of}
-use Rattle.dep_graph.specs.declared.graph.Row.{Row}
+use Rattle.dep_graph.specs.Row.{Row}
 use Rattle.fix_core.specs.declared.state.CoreState.{CoreState}
 use Rattle.fix_core.specs.declared.state.CoreSeat.{CoreSeat}
 use Rattle.fix_core.specs.declared.state.CoreMode.TheVariants.{Idle, Open, Owes}
@@ -26,9 +27,9 @@ use Rattle.fix_core.proofs.Written.{entry_after, entry_here, each_after, some_af
 -- ---- words and modes
 -- a word with a dirty bit set is not clean
 pub dirty_not_clean : (n : ℕ) → IsDirty n → is_clean n ≡ false
-dirty_not_clean n dirty = ne_eqb (n / 2 ^ 48) 0 (λ e.
-    let small : n < 2 ^ 48 = omega arith in
-    let off : bit_at n (48 + dirty.0) ≡ 0 = bit_at_above n 48 (48 + dirty.0) small (omega arith) in
+dirty_not_clean n dirty = ne_eqb (n / 2 ^ DIRTY) 0 (λ e.
+    let small : n < 2 ^ DIRTY = omega arith in
+    let off : bit_at n (DIRTY + dirty.0) ≡ 0 = bit_at_above n DIRTY (DIRTY + dirty.0) small (omega arith) in
     absurd (omega (arith, off, dirty.2)))
 
 pub owing_mode : (s : System) (g : List Row) (list : List PosId) → AreOwed s g list → IsMode s g (owing list)
@@ -195,8 +196,8 @@ module _ (s : System) (g : List Row) (workers : ℕ) (few : workers ≤ 16) (c :
       let v : CoreSeat = after_tell w d list word seat in
       let inside : d.0 < length c.words = omega (arith, inv.words) in
       let same : facts_at words ≡ facts_at c.words = facts_kept c.words d.0 n (dirtied_facts word w) in
-      let bit : 2 ^ (48 + w) < 2 ^ 64 = (let l : 48 + w < 64 = omega (arith, in_range) in pow-lt l) in
-      write_kept d.0 n v (or_lt 64 word (2 ^ (48 + w)) (All-get_or (λ (m : ℕ). m < 2 ^ 64) c.words d.0 0 inside inv.fits) bit) (dirtied_facts word w)
+      let bit : 2 ^ (DIRTY + w) < 2 ^ 64 = (let l : DIRTY + w < 64 = omega (arith, in_range) in pow-lt l) in
+      write_kept d.0 n v (or_lt 64 word (2 ^ (DIRTY + w)) (All-get_or (λ (m : ℕ). m < 2 ^ 64) c.words d.0 0 inside inv.fits) bit) (dirtied_facts word w)
       (owing_mode s g (without d list) (tell_owed d list (subst (IsMode s g) mode (inv.modes w seat at))))
       (λ q has. let apart = without_apart d seat.known q has in
       word_after (λ m. dirty_at m w ≡ 0) c.words d.0 n q.0 (λ here. absurd (apart.1 here)) (inv.known w seat at q apart.0))

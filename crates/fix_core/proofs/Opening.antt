@@ -8,9 +8,10 @@ use Rattle.std.proofs.lemmas.Nat.Bits.{bit_at_and, bit_at_above, bit_at-zero}
 use Rattle.std.proofs.lemmas.List.{get_or_past, length-replicate}
 use Rattle.std.proofs.lemmas.List.Elements.{All-cons, All-head, All-nil, All-tail, All-get_or}
 use Rattle.std.proofs.lemmas.Option.{same_Some}
+use Rattle.lattice_words.specs.declared.word.TheConstants.{DIRTY, FACT_BITS}
 use Rattle.lattice_words.specs.Words.{IsWithin}
 use Rattle.rule_terms.specs.System.{System, IsSystem}
-use Rattle.dep_graph.specs.declared.graph.Row.{Row}
+use Rattle.dep_graph.specs.Row.{Row}
 use Rattle.fix_core.specs.declared.state.CoreSeat.{CoreSeat}
 use Rattle.fix_core.specs.Machine.{facts_of, dirty_at, dirtied, new_seat, opening_words, opening}
 use Rattle.fix_core.specs.Invariant.{IsMode, Knows, IsCore}
@@ -31,14 +32,14 @@ opening_at workers k (mask ∷ masks) (suc p) l = opening_at workers (suc k) mas
 number_small : (k workers : ℕ) → 0 < workers → k % workers < workers
 number_small k workers some = omega (arith, mod-lt k some)
 
-dirtied_fits : (mask w : ℕ) → mask < 2 ^ 47 → w < 16 → dirtied mask w < 2 ^ 64
-dirtied_fits mask w l k = or_lt 64 mask (2 ^ (48 + w)) (omega arith) (let below : 48 + w < 64 = omega arith in pow-lt below)
+dirtied_fits : (mask w : ℕ) → mask < 2 ^ FACT_BITS → w < 16 → dirtied mask w < 2 ^ 64
+dirtied_fits mask w l k = or_lt 64 mask (2 ^ (DIRTY + w)) (omega arith) (let below : DIRTY + w < 64 = omega arith in pow-lt below)
 
-pub opening_fits : (workers k : ℕ) (masks : List ℕ) → 0 < workers → workers ≤ 16 → All (λ mask. mask < 2 ^ 47) masks → All (λ word. word < 2 ^ 64) (opening_words workers k masks)
+pub opening_fits : (workers k : ℕ) (masks : List ℕ) → 0 < workers → workers ≤ 16 → All (λ mask. mask < 2 ^ FACT_BITS) masks → All (λ word. word < 2 ^ 64) (opening_words workers k masks)
 opening_fits workers k [] some few facts = All-nil (λ (word : ℕ). word < 2 ^ 64)
 opening_fits workers k (mask ∷ masks) some few facts = All-cons (λ (word : ℕ). word < 2 ^ 64) (dirtied mask (k % workers)) (opening_words workers (suc k) masks)
-    (dirtied_fits mask (k % workers) (All-head (λ (m : ℕ). m < 2 ^ 47) mask masks facts) (omega (arith, number_small k workers some)))
-    (opening_fits workers (suc k) masks some few (All-tail (λ (m : ℕ). m < 2 ^ 47) mask masks facts))
+    (dirtied_fits mask (k % workers) (All-head (λ (m : ℕ). m < 2 ^ FACT_BITS) mask masks facts) (omega (arith, number_small k workers some)))
+    (opening_fits workers (suc k) masks some few (All-tail (λ (m : ℕ). m < 2 ^ FACT_BITS) mask masks facts))
 
 -- ---- the seats at the opening
 pub replicated : (n : ℕ) (x : CoreSeat) (w : ℕ) (seat : CoreSeat) → slice_get (replicate n x) w ≡ Some seat → x ≡ seat
@@ -54,8 +55,8 @@ module _ (s : System) (g : List Row) (workers : ℕ) (is : IsSystem s) (some : 0
   opened : (p : ℕ) → p < length s.masks → slice_index words p ≡ dirtied (slice_index s.masks p) (p % workers)
   opened p l = opening_at workers 0 s.masks p l ∙ ap (λ j. dirtied (slice_index s.masks p) (j % workers)) (let same : 0 + p ≡ p = omega arith in same)
 
-  mask_small : (p : ℕ) → p < length s.masks → slice_index s.masks p < 2 ^ 47
-  mask_small p l = All-get_or (λ (m : ℕ). m < 2 ^ 47) s.masks p 0 l is.facts
+  mask_small : (p : ℕ) → p < length s.masks → slice_index s.masks p < 2 ^ FACT_BITS
+  mask_small p l = All-get_or (λ (m : ℕ). m < 2 ^ FACT_BITS) s.masks p 0 l is.facts
 
   -- what holds of each word past the end, and of each mask that is dirty for one seat, holds of each word
   each_word : (P : ℕ → ℕ → Type 0) → ((p : ℕ) → length s.masks ≤ p → P p 0) → ((p w : ℕ) → p < length s.masks → w < workers → P p (dirtied (slice_index s.masks p) w)) → (p : ℕ) → P p (slice_index words p)
@@ -69,9 +70,9 @@ module _ (s : System) (g : List Row) (workers : ℕ) (is : IsSystem s) (some : 0
 
   -- the facts of a mask are its bits
   mask_facts : (p w i : ℕ) → p < length s.masks → bit_at (facts_of (dirtied (slice_index s.masks p) w)) i ≡ bit_at (slice_index s.masks p) i
-  mask_facts p w i l = ap (λ n. bit_at n i) (dirtied_facts (slice_index s.masks p) w) ∙ elim (cases_lt i 47) [
+  mask_facts p w i l = ap (λ n. bit_at n i) (dirtied_facts (slice_index s.masks p) w) ∙ elim (cases_lt i FACT_BITS) [
     | inl low ↦ facts_low (slice_index s.masks p) i low
-    | inr high ↦ facts_high (slice_index s.masks p) i high ∙ sym (bit_at_above (slice_index s.masks p) 47 i (mask_small p l) high)
+    | inr high ↦ facts_high (slice_index s.masks p) i high ∙ sym (bit_at_above (slice_index s.masks p) FACT_BITS i (mask_small p l) high)
   ]
 
   pub opening_core : IsCore s g workers (opening s workers)
@@ -80,7 +81,7 @@ module _ (s : System) (g : List Row) (workers : ℕ) (is : IsSystem s) (some : 0
     fits = opening_fits workers 0 s.masks some few is.facts;
     seats = length-replicate workers new_seat;
     within = each_word (λ p word. IsWithin (facts_of word) (slice_index s.masks p))
-        (λ p l i k. omega (arith, bit_at_and 0 (2 ^ 47 - 1) i, bit_at-zero i))
+        (λ p l i k. omega (arith, bit_at_and 0 (2 ^ FACT_BITS - 1) i, bit_at-zero i))
         (λ p w l k i b. omega (arith, mask_facts p w i l));
     above = λ others self. each_word (λ p word. IsWithin (slice_index others p) (facts_of word))
         (λ p l i k. omega (arith, none_past others p i (omega (arith, self.long))))
@@ -89,9 +90,9 @@ module _ (s : System) (g : List Row) (workers : ℕ) (is : IsSystem s) (some : 0
     covered = λ p l. inl (
       p % workers,
       omega (arith, number_small p workers some),
-      subst (λ n. bit_at n (48 + p % workers) ≡ 1) (sym (opened p l)) (dirtied_here (slice_index s.masks p) (p % workers)),
+      subst (λ n. bit_at n (DIRTY + p % workers) ≡ 1) (sym (opened p l)) (dirtied_here (slice_index s.masks p) (p % workers)),
     );
-    numbers = λ p u l h. each_word (λ q word. dirty_at word u ≡ 0) (λ q k. bit_at-zero (48 + u))
-        (λ q w k j. let ne : u ≢ w = λ e. absurd (omega arith) in dirtied_other (slice_index s.masks q) w u ne ∙ bit_at_above (slice_index s.masks q) 47 (48 + u) (mask_small q k) (omega arith)) p;
+    numbers = λ p u l h. each_word (λ q word. dirty_at word u ≡ 0) (λ q k. bit_at-zero (DIRTY + u))
+        (λ q w k j. let ne : u ≢ w = λ e. absurd (omega arith) in dirtied_other (slice_index s.masks q) w u ne ∙ bit_at_above (slice_index s.masks q) FACT_BITS (DIRTY + u) (mask_small q k) (omega arith)) p;
     known = λ w seat e. subst (λ (x : CoreSeat). Knows words w x) (replicated workers new_seat w seat e) (λ p has. absurd (omega (arith, has.1)));
   }

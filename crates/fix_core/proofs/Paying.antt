@@ -9,7 +9,8 @@ use Rattle.std.proofs.lemmas.Nat.{and_le_l, and_le_r, div-add-mod'}
 use Rattle.std.proofs.lemmas.Nat.Bits.{bit_at_cat_high, bit_at_above, bit_at_xor, bit_at-zero, bit_at-lt, same_from_bits}
 use Rattle.std.proofs.lemmas.Option.{get_or_from_slice_get, slice_get_within}
 use Rattle.attr_ids.specs.declared.ids.PosId.{PosId}
-use Rattle.dep_graph.specs.declared.graph.Row.{Row}
+use Rattle.lattice_words.specs.declared.word.TheConstants.{DIRTY, FACT_BITS}
+use Rattle.dep_graph.specs.Row.{Row}
 use Rattle.dep_graph.specs.Graph.{row_at}
 use Rattle.fix_core.specs.declared.state.CoreSeat.{CoreSeat}
 use Rattle.fix_core.specs.Machine.{facts_of, dirty_at, is_clean, cleaned, dirtied, cut_to, lost_by, readers_of, owing, without}
@@ -19,32 +20,32 @@ use Rattle.fix_core.proofs.Ones.{ones_zero, ones_less, ones_same, ones_more, one
 
 -- ---- dirty bits
 -- the bits of a word above its facts
-high : (n w : ℕ) → bit_at (n / 2 ^ 48) w ≡ dirty_at n w
+high : (n w : ℕ) → bit_at (n / 2 ^ DIRTY) w ≡ dirty_at n w
 high n w =
-    let parts : n / 2 ^ 48 * 2 ^ 48 + n % 2 ^ 48 ≡ n = div-add-mod' n (2 ^ 48) in
-    let low : n % 2 ^ 48 < 2 ^ 48 = mod-lt n (let some : 0 < 2 ^ 48 = omega arith in some) in
-    let at : bit_at (n / 2 ^ 48 * 2 ^ 48 + n % 2 ^ 48) (48 + w) ≡ bit_at (n / 2 ^ 48) (48 + w - 48) = bit_at_cat_high (n / 2 ^ 48) 48 (n % 2 ^ 48) (48 + w) low (omega arith) in
-    let place : 48 + w - 48 ≡ w = omega arith in
-    sym (ap (λ m. bit_at m (48 + w)) (sym parts) ∙ at ∙ ap (bit_at (n / 2 ^ 48)) place)
+    let parts : n / 2 ^ DIRTY * 2 ^ DIRTY + n % 2 ^ DIRTY ≡ n = div-add-mod' n (2 ^ DIRTY) in
+    let low : n % 2 ^ DIRTY < 2 ^ DIRTY = mod-lt n (let some : 0 < 2 ^ DIRTY = omega arith in some) in
+    let at : bit_at (n / 2 ^ DIRTY * 2 ^ DIRTY + n % 2 ^ DIRTY) (DIRTY + w) ≡ bit_at (n / 2 ^ DIRTY) (DIRTY + w - DIRTY) = bit_at_cat_high (n / 2 ^ DIRTY) DIRTY (n % 2 ^ DIRTY) (DIRTY + w) low (omega arith) in
+    let place : DIRTY + w - DIRTY ≡ w = omega arith in
+    sym (ap (λ m. bit_at m (DIRTY + w)) (sym parts) ∙ at ∙ ap (bit_at (n / 2 ^ DIRTY)) place)
 
 pub cleaned_count : (n : ℕ) → dirty_count (cleaned n) ≡ 0
 cleaned_count n =
-    let small : cleaned n < 2 ^ 48 = mask_lt n 48 in
-    let none : cleaned n / 2 ^ 48 ≡ 0 = omega arith in
+    let small : cleaned n < 2 ^ DIRTY = mask_lt n DIRTY in
+    let none : cleaned n / 2 ^ DIRTY ≡ 0 = omega arith in
     ap count_ones none ∙ ones_zero
 
 -- taking up a dirty word pays for it by one bit at least
 pub take_pays : (n took : ℕ) (b : Bool) → is_clean n ≡ b → cond b took (took + 1) ≤ took + dirty_count n
 take_pays n took true e = omega arith
 take_pays n took false e =
-    let dirty : n / 2 ^ 48 ≢ 0 = λ none. let clean : is_clean n ≡ true = eq-eqb (n / 2 ^ 48) 0 none in let bad : false ≡ true = sym e ∙ clean in absurd (cc) in
-    omega (arith, ones_some (n / 2 ^ 48) dirty)
+    let dirty : n / 2 ^ DIRTY ≢ 0 = λ none. let clean : is_clean n ≡ true = eq-eqb (n / 2 ^ DIRTY) 0 none in let bad : false ≡ true = sym e ∙ clean in absurd (cc) in
+    omega (arith, ones_some (n / 2 ^ DIRTY) dirty)
 
 -- a tell that sets a bit counts it
 pub tell_pays : (n w told : ℕ) (b : Bool) → eqb (dirty_at n w) 0 ≡ b → dirty_count (dirtied n w) + told ≡ dirty_count n + cond b (told + 1) told
 tell_pays n w told true e =
-    let a : ℕ = n / 2 ^ 48 in
-    let c : ℕ = dirtied n w / 2 ^ 48 in
+    let a : ℕ = n / 2 ^ DIRTY in
+    let c : ℕ = dirtied n w / 2 ^ DIRTY in
     omega (
       arith,
       ones_more (a + c) a c w (omega arith) (omega arith) (high n w ∙ eqb-true (dirty_at n w) 0 e) (high (dirtied n w) w ∙ dirtied_here n w)
@@ -53,20 +54,20 @@ tell_pays n w told true e =
 tell_pays n w told false e =
     let set_already : dirty_at n w ≡ 1 = elim (cases_eq (dirty_at n w) 0) [
       | inl none ↦ (let bad : false ≡ true = sym e ∙ eq-eqb (dirty_at n w) 0 none in absurd (cc))
-      | inr some ↦ omega (arith, bit_at-lt n (48 + w), some)
+      | inr some ↦ omega (arith, bit_at-lt n (DIRTY + w), some)
     ] in
-    let same : dirtied n w / 2 ^ 48 ≡ n / 2 ^ 48 = same_from_bits (dirtied n w / 2 ^ 48) (n / 2 ^ 48) (λ j. high (dirtied n w) j ∙ elim (cases_eq j w) [
-      | inl here ↦ subst (λ u. dirty_at (dirtied n w) u ≡ bit_at (n / 2 ^ 48) u) (sym here) (dirtied_here n w ∙ sym (high n w ∙ set_already))
+    let same : dirtied n w / 2 ^ DIRTY ≡ n / 2 ^ DIRTY = same_from_bits (dirtied n w / 2 ^ DIRTY) (n / 2 ^ DIRTY) (λ j. high (dirtied n w) j ∙ elim (cases_eq j w) [
+      | inl here ↦ subst (λ u. dirty_at (dirtied n w) u ≡ bit_at (n / 2 ^ DIRTY) u) (sym here) (dirtied_here n w ∙ sym (high n w ∙ set_already))
       | inr other ↦ dirtied_other n w j other ∙ sym (high n j)
     ]) in
     omega (arith, ap count_ones same)
 
 pub cut_count : (new n : ℕ) → n < 2 ^ 64 → dirty_count (cut_to new n) ≡ dirty_count n
 cut_count new n fits =
-    let less : cut_to new n < 2 ^ 64 = omega (arith, and_le_l n (bit_or new (2 ^ 64 - 2 ^ 47)), fits) in
-    ap count_ones (same_from_bits (cut_to new n / 2 ^ 48) (n / 2 ^ 48) (λ w. high (cut_to new n) w ∙ (elim (cases_lt w 16) [
+    let less : cut_to new n < 2 ^ 64 = omega (arith, and_le_l n (bit_or new (2 ^ 64 - 2 ^ FACT_BITS)), fits) in
+    ap count_ones (same_from_bits (cut_to new n / 2 ^ DIRTY) (n / 2 ^ DIRTY) (λ w. high (cut_to new n) w ∙ (elim (cases_lt w 16) [
       | inl low ↦ cut_dirty new n w low
-      | inr past ↦ bit_at_above (cut_to new n) 64 (48 + w) less (omega arith) ∙ sym (bit_at_above n 64 (48 + w) fits (omega arith))
+      | inr past ↦ bit_at_above (cut_to new n) 64 (DIRTY + w) less (omega arith) ∙ sym (bit_at_above n 64 (DIRTY + w) fits (omega arith))
     ] ∙ sym (high n w))))
 
 -- ---- facts that fall

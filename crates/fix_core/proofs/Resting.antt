@@ -3,11 +3,12 @@ use Rattle.std.proofs.Common.{◌≡◌, ℕ, zero, suc, ◌^◌, ◌<◌, List,
 use Rattle.std.specs.Int.Bits.{mask_lt}
 use Rattle.std.proofs.lemmas.List.{length-map}
 use Rattle.std.proofs.lemmas.List.Elements.{All-map}
+use Rattle.lattice_words.specs.declared.word.TheConstants.{FACT_BITS}
 use Rattle.lattice_words.specs.Words.{IsWithin}
 use Rattle.rule_terms.specs.System.{System, value}
 use Rattle.rule_terms.specs.Greatest.{AreWithin, IsAbove, IsGreatest}
 use Rattle.rule_terms.proofs.Greatest.{greatest_from_above}
-use Rattle.dep_graph.specs.declared.graph.Row.{Row}
+use Rattle.dep_graph.specs.Row.{Row}
 use Rattle.fix_core.specs.declared.state.CoreState.{CoreState}
 use Rattle.fix_core.specs.declared.state.CoreMode.{CoreMode}
 use Rattle.fix_core.specs.declared.state.CoreMode.TheVariants.{Idle}
@@ -50,7 +51,7 @@ module _ (s : System) (g : List Row) (workers : ℕ) (c : CoreState) (inv : IsCo
   pub core_greatest : IsGreatest s (map facts_of c.words)
   core_greatest = greatest_from_above s (map facts_of c.words) (record {
     long = length-map c.words facts_of ∙ inv.words;
-    fits = All-map (λ (m : ℕ). m < 2 ^ 64) facts_of c.words (λ k d l. omega (arith, mask_lt (slice_index_or c.words k d) 47));
+    fits = All-map (λ (m : ℕ). m < 2 ^ 64) facts_of c.words (λ k d l. omega (arith, mask_lt (slice_index_or c.words k d) FACT_BITS));
     within = core_within s g workers c inv;
     supported = subst (λ (f : ℕ → ℕ). (p : ℕ) → p < length s.masks → IsWithin (f p) (value s p f)) (same_facts c.words) supported;
   }) (core_above s g workers c inv)

@@ -4,63 +4,64 @@ use Rattle.std.specs.Int.{bit_at}
 use Rattle.std.specs.Int.Bits.{and_lt}
 use Rattle.std.proofs.lemmas.Bool.{cases_lt}
 use Rattle.std.proofs.lemmas.Nat.Bits.{bit_at_and, bit_at_or, bit_at_ones, bit_at_ones_above, bit_at_mask_below, bit_at_mask_inside, bit_at-pow_same, bit_at-pow_other, bit_at-lt, same_from_bits}
+use Rattle.lattice_words.specs.declared.word.TheConstants.{DIRTY, FACT_BITS}
 use Rattle.fix_core.specs.Machine.{facts_of, facts_at, dirty_at, cleaned, dirtied, cut_to}
 
 -- ---- facts
-pub facts_low : (n i : ℕ) → i < 47 → bit_at (facts_of n) i ≡ bit_at n i
-facts_low n i l = omega (arith, bit_at_and n (2 ^ 47 - 1) i, bit_at_ones 47 i l, bit_at-lt n i)
+pub facts_low : (n i : ℕ) → i < FACT_BITS → bit_at (facts_of n) i ≡ bit_at n i
+facts_low n i l = omega (arith, bit_at_and n (2 ^ FACT_BITS - 1) i, bit_at_ones FACT_BITS i l, bit_at-lt n i)
 
-pub facts_high : (n i : ℕ) → 47 ≤ i → bit_at (facts_of n) i ≡ 0
-facts_high n i l = omega (arith, bit_at_and n (2 ^ 47 - 1) i, bit_at_ones_above 47 i l, bit_at-lt n i)
+pub facts_high : (n i : ℕ) → FACT_BITS ≤ i → bit_at (facts_of n) i ≡ 0
+facts_high n i l = omega (arith, bit_at_and n (2 ^ FACT_BITS - 1) i, bit_at_ones_above FACT_BITS i l, bit_at-lt n i)
 
 -- words with the same low bits have the same facts
-pub facts_same : (a b : ℕ) → ((i : ℕ) → i < 47 → bit_at a i ≡ bit_at b i) → facts_of a ≡ facts_of b
-facts_same a b h = same_from_bits (facts_of a) (facts_of b) (λ i. elim (cases_lt i 47) [
+pub facts_same : (a b : ℕ) → ((i : ℕ) → i < FACT_BITS → bit_at a i ≡ bit_at b i) → facts_of a ≡ facts_of b
+facts_same a b h = same_from_bits (facts_of a) (facts_of b) (λ i. elim (cases_lt i FACT_BITS) [
   | inl low ↦ facts_low a i low ∙ (h i low ∙ sym (facts_low b i low))
   | inr high ↦ facts_high a i high ∙ sym (facts_high b i high)
 ])
 
 -- ---- words with their dirty bits unset
 pub cleaned_facts : (n : ℕ) → facts_of (cleaned n) ≡ facts_of n
-cleaned_facts n = facts_same (cleaned n) n (λ i l. let on : bit_at (2 ^ 48 - 1) i ≡ 1 = bit_at_ones 48 i (omega arith) in omega (arith, bit_at_and n (2 ^ 48 - 1) i, on, bit_at-lt n i))
+cleaned_facts n = facts_same (cleaned n) n (λ i l. let on : bit_at (2 ^ DIRTY - 1) i ≡ 1 = bit_at_ones DIRTY i (omega arith) in omega (arith, bit_at_and n (2 ^ DIRTY - 1) i, on, bit_at-lt n i))
 
 pub cleaned_clean : (n w : ℕ) → dirty_at (cleaned n) w ≡ 0
-cleaned_clean n w = let off : bit_at (2 ^ 48 - 1) (48 + w) ≡ 0 = bit_at_ones_above 48 (48 + w) (omega arith) in omega (arith, bit_at_and n (2 ^ 48 - 1) (48 + w), off, bit_at-lt n (48 + w))
+cleaned_clean n w = let off : bit_at (2 ^ DIRTY - 1) (DIRTY + w) ≡ 0 = bit_at_ones_above DIRTY (DIRTY + w) (omega arith) in omega (arith, bit_at_and n (2 ^ DIRTY - 1) (DIRTY + w), off, bit_at-lt n (DIRTY + w))
 
 pub cleaned_fits : (n : ℕ) → n < 2 ^ 64 → cleaned n < 2 ^ 64
-cleaned_fits n l = and_lt 64 n (2 ^ 48 - 1) l (omega arith)
+cleaned_fits n l = and_lt 64 n (2 ^ DIRTY - 1) l (omega arith)
 
 -- ---- words with one more dirty bit
 pub dirtied_facts : (n w : ℕ) → facts_of (dirtied n w) ≡ facts_of n
 dirtied_facts n w = facts_same (dirtied n w) n (λ i l.
-    let apart : i ≢ 48 + w = λ e. absurd (omega arith) in
-    omega (arith, bit_at_or n (2 ^ (48 + w)) i, bit_at-pow_other (48 + w) i apart))
+    let apart : i ≢ DIRTY + w = λ e. absurd (omega arith) in
+    omega (arith, bit_at_or n (2 ^ (DIRTY + w)) i, bit_at-pow_other (DIRTY + w) i apart))
 
 pub dirtied_here : (n w : ℕ) → dirty_at (dirtied n w) w ≡ 1
-dirtied_here n w = omega (arith, bit_at_or n (2 ^ (48 + w)) (48 + w), bit_at-pow_same (48 + w), bit_at-lt n (48 + w))
+dirtied_here n w = omega (arith, bit_at_or n (2 ^ (DIRTY + w)) (DIRTY + w), bit_at-pow_same (DIRTY + w), bit_at-lt n (DIRTY + w))
 
 pub dirtied_other : (n w u : ℕ) → u ≢ w → dirty_at (dirtied n w) u ≡ dirty_at n u
 dirtied_other n w u ne =
-    let apart : 48 + u ≢ 48 + w = λ e. ne (omega arith) in
-    omega (arith, bit_at_or n (2 ^ (48 + w)) (48 + u), bit_at-pow_other (48 + w) (48 + u) apart)
+    let apart : DIRTY + u ≢ DIRTY + w = λ e. ne (omega arith) in
+    omega (arith, bit_at_or n (2 ^ (DIRTY + w)) (DIRTY + u), bit_at-pow_other (DIRTY + w) (DIRTY + u) apart)
 
 -- ---- words that were cut
-pub cut_low : (new n i : ℕ) → i < 47 → bit_at (cut_to new n) i ≡ min (bit_at n i) (bit_at new i)
+pub cut_low : (new n i : ℕ) → i < FACT_BITS → bit_at (cut_to new n) i ≡ min (bit_at n i) (bit_at new i)
 cut_low new n i l =
-    let off : bit_at (2 ^ 64 - 2 ^ 47) i ≡ 0 = bit_at_mask_below 47 64 i l in
-    omega (arith, bit_at_and n (bit_or new (2 ^ 64 - 2 ^ 47)) i, bit_at_or new (2 ^ 64 - 2 ^ 47) i, off, bit_at-lt n i, bit_at-lt new i)
+    let off : bit_at (2 ^ 64 - 2 ^ FACT_BITS) i ≡ 0 = bit_at_mask_below FACT_BITS 64 i l in
+    omega (arith, bit_at_and n (bit_or new (2 ^ 64 - 2 ^ FACT_BITS)) i, bit_at_or new (2 ^ 64 - 2 ^ FACT_BITS) i, off, bit_at-lt n i, bit_at-lt new i)
 
-pub cut_high : (new n i : ℕ) → 47 ≤ i → i < 64 → bit_at (cut_to new n) i ≡ bit_at n i
+pub cut_high : (new n i : ℕ) → FACT_BITS ≤ i → i < 64 → bit_at (cut_to new n) i ≡ bit_at n i
 cut_high new n i l h =
-    let on : bit_at (2 ^ 64 - 2 ^ 47) i ≡ 1 = bit_at_mask_inside 47 64 i l h in
-    omega (arith, bit_at_and n (bit_or new (2 ^ 64 - 2 ^ 47)) i, bit_at_or new (2 ^ 64 - 2 ^ 47) i, on, bit_at-lt n i, bit_at-lt new i)
+    let on : bit_at (2 ^ 64 - 2 ^ FACT_BITS) i ≡ 1 = bit_at_mask_inside FACT_BITS 64 i l h in
+    omega (arith, bit_at_and n (bit_or new (2 ^ 64 - 2 ^ FACT_BITS)) i, bit_at_or new (2 ^ 64 - 2 ^ FACT_BITS) i, on, bit_at-lt n i, bit_at-lt new i)
 
 pub cut_dirty : (new n w : ℕ) → w < 16 → dirty_at (cut_to new n) w ≡ dirty_at n w
-cut_dirty new n w l = cut_high new n (48 + w) (omega arith) (omega arith)
+cut_dirty new n w l = cut_high new n (DIRTY + w) (omega arith) (omega arith)
 
 -- the facts of a word that was cut are those that it had and that the cut leaves
 pub cut_facts : (new n i : ℕ) → bit_at (facts_of (cut_to new n)) i ≡ min (bit_at (facts_of n) i) (bit_at new i)
-cut_facts new n i = elim (cases_lt i 47) [
+cut_facts new n i = elim (cases_lt i FACT_BITS) [
   | inl low ↦ omega (arith, facts_low (cut_to new n) i low, facts_low n i low, cut_low new n i low)
   | inr high ↦ omega (arith, facts_high (cut_to new n) i high, facts_high n i high)
 ]

@@ -1,6 +1,7 @@
 -- How often words are taken up, counted by what is dirty, told and owed.
 use Rattle.std.specs.Prelude.{ℕ, ◌+◌, ◌-◌, ◌*◌, ◌/◌, ◌^◌, ◌≤◌, List, [], ◌∷◌, length, sum_by, count_ones}
-use Rattle.dep_graph.specs.declared.graph.Row.{Row}
+use Rattle.lattice_words.specs.declared.word.TheConstants.{DIRTY}
+use Rattle.dep_graph.specs.Row.{Row}
 use Rattle.rule_terms.specs.System.{System}
 use Rattle.fix_core.specs.declared.state.CoreState.{CoreState}
 use Rattle.fix_core.specs.declared.state.CoreMode.{CoreMode}
@@ -9,7 +10,7 @@ use Rattle.fix_core.specs.Machine.{facts_of}
 
 -- how many dirty bits of a word are set
 abbrev pub dirty_count : ℕ → ℕ
-dirty_count word = count_ones (word / 2 ^ 48)
+dirty_count word = count_ones (word / 2 ^ DIRTY)
 
 -- how many positions a seat owes
 abbrev pub owed_count : CoreMode → ℕ

@@ -7,7 +7,7 @@ use Rattle.rule_terms.specs.Greatest.{IsSelfSupporting}
 use Rattle.rule_terms.specs.Reads.{reads_at, AgreeOn}
 use Rattle.rule_terms.specs.Slots.{input_at}
 use Rattle.rule_terms.specs.System.{System, inputs_of, value}
-use Rattle.dep_graph.specs.declared.graph.Row.{Row}
+use Rattle.dep_graph.specs.Row.{Row}
 use Rattle.dep_graph.specs.Graph.{row_at}
 use Rattle.fix_core.specs.declared.state.CoreState.{CoreState}
 use Rattle.fix_core.specs.declared.state.CoreSeat.{CoreSeat}

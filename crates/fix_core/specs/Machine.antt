@@ -3,10 +3,11 @@ use Rattle.std.specs.Prelude.{ℕ, suc, ◌+◌, ◌-◌, ◌/◌, ◌%◌, ◌^
 use Rattle.std.specs.List.{filter, fold}
 use Rattle.std.specs.Int.{bit_at}
 use Rattle.attr_ids.specs.declared.ids.PosId.{PosId}
+use Rattle.lattice_words.specs.declared.word.TheConstants.{DIRTY, FACT_BITS}
 use Rattle.rule_terms.specs.Names.{has_name}
 use Rattle.rule_terms.specs.Slots.{input_at}
 use Rattle.rule_terms.specs.System.{System, inputs_of, value_at}
-use Rattle.dep_graph.specs.declared.graph.Row.{Row}
+use Rattle.dep_graph.specs.Row.{Row}
 use Rattle.dep_graph.specs.Graph.{row_at}
 use Rattle.fix_core.specs.declared.state.CoreState.{CoreState}
 use Rattle.fix_core.specs.declared.state.CoreSeat.{CoreSeat}
@@ -16,29 +17,29 @@ use Rattle.fix_core.specs.declared.event.CoreEvent.{CoreEvent}
 use Rattle.fix_core.specs.declared.event.CoreEvent.TheVariants.{Take, Look, Cut, Tell, Clear}
 
 -- ---- words
--- the facts of a word: its bits 0 to 46
+-- the facts of a word: its lowest bits
 abbrev pub facts_of : ℕ → ℕ
-facts_of word = bit_and word (2 ^ 47 - 1)
+facts_of word = bit_and word (2 ^ FACT_BITS - 1)
 
 -- the dirty bit of a seat, set or not
 abbrev pub dirty_at : ℕ → ℕ → ℕ
-dirty_at word w = bit_at word (48 + w)
+dirty_at word w = bit_at word (DIRTY + w)
 
 -- whether no dirty bit of a word is set
 abbrev pub is_clean : ℕ → Bool
-is_clean word = word / 2 ^ 48 == 0
+is_clean word = word / 2 ^ DIRTY == 0
 
 -- the word with all its dirty bits unset
 abbrev pub cleaned : ℕ → ℕ
-cleaned word = bit_and word (2 ^ 48 - 1)
+cleaned word = bit_and word (2 ^ DIRTY - 1)
 
 -- the word with the dirty bit of a seat set
 abbrev pub dirtied : ℕ → ℕ → ℕ
-dirtied word w = bit_or word (2 ^ (48 + w))
+dirtied word w = bit_or word (2 ^ (DIRTY + w))
 
 -- the word with these facts alone left of its facts, and its other bits as they were
 abbrev pub cut_to : ℕ → ℕ → ℕ
-cut_to new word = bit_and word (bit_or new (2 ^ 64 - 2 ^ 47))
+cut_to new word = bit_and word (bit_or new (2 ^ 64 - 2 ^ FACT_BITS))
 
 -- the facts of a word that a cut to these facts takes
 abbrev pub lost_by : ℕ → ℕ → ℕ

@@ -2,7 +2,7 @@ ghost use Rattle.std.specs.Prelude.{◌≡◌, ◌≢◌, ℕ, ◌<◌, ◌≤�
 ghost use Rattle.attr_ids.specs.declared.ids.PosId.{PosId};
 ghost use Rattle.rule_terms.specs.Slots.{input_at};
 ghost use Rattle.rule_terms.specs.System.{System, IsSystem, inputs_of};
-ghost use Rattle.dep_graph.specs.declared.graph.Row.{Row};
+ghost use Rattle.dep_graph.specs.Row.{Row};
 ghost use Rattle.dep_graph.specs.Graph.{IsGraphOf, budget_of};
 ghost use Rattle.fix_core.specs.declared.event.CoreEvent.{CoreEvent};
 ghost use Rattle.fix_core.specs.declared.state.CoreState.{CoreState};

@@ -1,7 +1,7 @@
 use attr_ids::{PosId, Sequence};
 
 /// One atomic step of the seat `w`.
-#[derive(Clone, Copy, Debug, PartialEq, Eq)]
+#[derive(Clone, Copy)]
 pub enum CoreEvent {
     /// Takes the position up if it is dirty, and clears its dirty bits.
     Take { w: u8, p: PosId },

@@ -3,7 +3,7 @@ ghost use Rattle.attr_ids.specs.declared.ids.PosId.{PosId};
 ghost use Rattle.rule_terms.specs.Slots.{input_at};
 ghost use Rattle.rule_terms.specs.System.{System, IsSystem, inputs_of, value_at};
 ghost use Rattle.rule_terms.specs.Greatest.{AreWithin, IsAbove, IsGreatest};
-ghost use Rattle.dep_graph.specs.declared.graph.Row.{Row};
+ghost use Rattle.dep_graph.specs.Row.{Row};
 ghost use Rattle.dep_graph.specs.Graph.{IsGraphOf};
 ghost use Rattle.fix_core.specs.declared.event.CoreEvent.{CoreEvent};
 ghost use Rattle.fix_core.specs.declared.state.CoreState.{CoreState};

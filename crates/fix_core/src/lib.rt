@@ -13,8 +13,6 @@ mod lists;
 mod running;
 mod seat;
 mod state;
-#[cfg(test)]
-mod tests;
 
 pub use counts::{
     a_clear_keeps_the_counts, a_cut_keeps_the_counts, a_join_keeps_the_counts,

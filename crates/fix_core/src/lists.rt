@@ -79,7 +79,7 @@ pub(crate) fn owed(alloc: Global, g: &DepGraph, p: PosId, lost: u64) -> Result<P
     ensures { IfOk result (λ list. list ≡ owed_by g.now p.0 lost) }
 {
     let mut list = PosList::new(alloc);
-    let dependents = g.of(p).as_slice();
+    let dependents = g.of(p);
     for (j, d) in dependents.iter().enumerate() {
         if g.read_by(p, j as u32) & lost != 0 {
             list.push(*d)?;

@@ -5,10 +5,11 @@ ghost use Rattle.fix_core.specs.Runs.{CanRun};
 
 use crate::event::{CoreEvent, EventList};
 use crate::lists::{copy_of, names, owed, values, with_position};
-use crate::seat::{CLEAN, FACTS, mode_owing};
+use crate::seat::mode_owing;
 use crate::state::{CoreMode, CoreSeat, CoreSeats, CoreState};
 use attr_ids::{NoMemory, PosId};
 use dep_graph::DepGraph;
+use lattice_words::word::{CLEAN, DIRTY, FACTS};
 use rule_terms::System;
 use std::alloc::Global;
 
@@ -151,7 +152,7 @@ fn tell(alloc: Global, c: &mut CoreState, w: u8, d: PosId) -> Result<(), NoMemor
         return Ok(());
     }
     let seat = old.telling(alloc, w, d, list, word)?;
-    c.write(d, word | 1 << (48 + w), w, seat);
+    c.write(d, word | 1 << (DIRTY + w as u32), w, seat);
     Ok(())
 }
 
@@ -161,7 +162,7 @@ fn clear(alloc: Global, c: &mut CoreState, w: u8, p: PosId) -> Result<(), NoMemo
     requires position { p.0 < length c.old.words }
     ensures { OnOk result (c.new ≡ clear_step c.old w p (seat_at c.old w).mode) }
 {
-    let unset = c.word(p) >> (48 + w) & 1 == 0;
+    let unset = c.word(p) >> (DIRTY + w as u32) & 1 == 0;
     let old = c.seat(w);
     let CoreMode::Idle = old.mode else {
         return Ok(());

@@ -4,14 +4,9 @@ ghost use Rattle.fix_core.specs.Machine.{after_take, after_look, after_tell, aft
 use crate::lists::{copy_of, nothing_looked, with_position, without_position};
 use crate::state::{CoreMode, CoreSeat, LookedList};
 use attr_ids::{NoMemory, PosId, PosList};
+use lattice_words::word::{DIRTY, FACTS};
 use rule_terms::System;
 use std::alloc::Global;
-
-/// Bits 0 to 46 of a word: its facts.
-pub(crate) const FACTS: u64 = (1 << 47) - 1;
-
-/// The bits of a word below its dirty bits.
-pub(crate) const CLEAN: u64 = (1 << 48) - 1;
 
 /// The mode of a seat that owes these positions, or none.
 pub(crate) fn mode_owing(list: PosList) -> CoreMode
@@ -51,7 +46,7 @@ impl CoreSeat {
     {
         let known = with_position(alloc, &self.known, p)?;
         let told = self.told;
-        if word >> 48 == 0 {
+        if word >> DIRTY == 0 {
             return Ok(CoreSeat {
                 mode: CoreMode::Idle,
                 known,
@@ -100,7 +95,7 @@ impl CoreSeat {
     {
         let list = without_position(alloc, d, list.as_slice())?;
         let known = without_position(alloc, d, self.known.as_slice())?;
-        let unset = word >> (48 + w) & 1 == 0;
+        let unset = word >> (DIRTY + w as u32) & 1 == 0;
         Ok(CoreSeat {
             mode: mode_owing(list),
             known,

@@ -4,7 +4,7 @@ use attr_ids::{PosId, PosList, Sequence, WordList};
 pub type LookedList = Sequence<Option<u64>>;
 
 /// What a seat is about.
-#[derive(Debug, Drop)]
+#[derive(Drop)]
 pub enum CoreMode {
     Idle,
     /// It has taken up the position, and looks at its inputs.
@@ -14,7 +14,7 @@ pub enum CoreMode {
 }
 
 /// One seat of the core machine. Its place in the list of seats is its number.
-#[derive(Debug, Drop)]
+#[derive(Drop)]
 pub struct CoreSeat {
     pub mode: CoreMode,
     /// Positions in whose words the seat's own dirty bit is known to be unset.
@@ -27,8 +27,9 @@ pub struct CoreSeat {
 
 pub type CoreSeats = Sequence<CoreSeat>;
 
-/// A state of the core machine. Bits 0 to 46 of a word are its facts, and bit 48 + w is the dirty bit of seat w.
-#[derive(Debug, Drop)]
+/// A state of the core machine. The lowest `FACT_BITS` bits of a word are its facts, and bit `DIRTY` + w is the dirty
+/// bit of seat w.
+#[derive(Drop)]
 pub struct CoreState {
     pub words: WordList,
     pub seats: CoreSeats,

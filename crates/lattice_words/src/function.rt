@@ -1,5 +1,4 @@
-//! Bits of the word of a function with a body. The word of a segment's effect has the same bits, each
-//! for what that segment alone does.
+//! Bits of the word of a function with a body.
 
 /// It does not unwind (LangRef, "Function Attributes", `nounwind`).
 pub const NOUNWIND: u32 = 0;
@@ -27,3 +26,15 @@ pub const NO_READ_OF_INACCESSIBLEMEM: u32 = 7;
 
 /// It does not write memory that the module cannot reach.
 pub const NO_WRITE_OF_INACCESSIBLEMEM: u32 = 8;
+
+/// How many facts a function has.
+pub const BITS: u32 = NO_WRITE_OF_INACCESSIBLEMEM + 1;
+
+/// All facts of a function.
+pub const ALL: u64 = (1 << BITS) - 1;
+
+/// The facts of a function that speak of what it reads and writes.
+pub const ALL_MEMORY: u64 = (1 << BITS) - (1 << NO_READ_OF_DEFAULT);
+
+/// The other facts: how it ends, and that it frees nothing.
+pub const ALL_CONTROL: u64 = (1 << NO_READ_OF_DEFAULT) - 1;

@@ -4,10 +4,13 @@
 //! `keep_align` are the ladders as functions on words (`shift_of`, `keep_align_of`), and monotone.
 #![tactic(auto)]
 
+pub mod effect;
+pub mod entry;
 pub mod function;
 mod ladders;
 mod laws;
 pub mod reach;
+pub mod returned;
 pub mod segment;
 pub mod value;
 pub mod word;

@@ -2,3 +2,6 @@
 
 /// No run reaches the segment.
 pub const DEAD: u32 = 0;
+
+/// All facts of a segment.
+pub const ALL: u64 = 1 << DEAD;

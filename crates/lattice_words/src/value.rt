@@ -1,6 +1,5 @@
-//! Bits of the word of a value: a parameter of a body or the result of an instruction. What a body
-//! returns has the bits up to `NOT_UNKNOWN`, and what a parameter has at each entry those from
-//! `NONNULL` to `BYTES_1024`.
+//! Bits of the word of a value: a parameter of a body or the result of an instruction.
+use crate::word::{FACT_BITS, FACTS};
 
 /// It is the same as parameter 0 of its function.
 pub const SAME_AS_PARAMETER_0: u32 = 0;
@@ -152,78 +151,28 @@ pub const ALIGN_RUNGS: u32 = 6;
 /// How many rungs of bytes there are.
 pub const BYTE_RUNGS: u32 = 16;
 
+/// The bits that say which parameter it is the same as; a value that is no pointer has no others.
+pub const ALL_SAME: u64 = (1 << SAME_AS_PARAMETERS) - 1;
+
 /// All rungs of alignment.
-pub const ALL_ALIGN: u64 = ((1 << 6) - 1) << 17;
+pub const ALL_ALIGN: u64 = (1 << BYTES_1) - (1 << ALIGN_2);
 
 /// All rungs of bytes.
-pub const ALL_BYTES: u64 = ((1 << 16) - 1) << 23;
+pub const ALL_BYTES: u64 = (1 << NOT_OWN_ALLOCA) - (1 << BYTES_1);
+
+/// The bits that say where it does not point.
+pub const ALL_BASE: u64 = (1 << CAPTURED_BY_RETURN_ALONE) - (1 << NOT_OWN_ALLOCA);
+
+/// The bits that speak of its uses.
+pub const ALL_USES: u64 = (1 << (NOT_WRITTEN_THROUGH + 1)) - (1 << CAPTURED_BY_RETURN_ALONE);
+
+/// All facts of a value that is a pointer.
+pub const ALL: u64 = FACTS;
 
 const _: () = prove!(ALIGN_64 == ALIGN_2 + ALIGN_RUNGS - 1);
 
 const _: () = prove!(BYTES_1024 == BYTES_1 + BYTE_RUNGS - 1);
 
-const _: () = prove!(ALL_ALIGN == (1 << BYTES_1) - (1 << ALIGN_2));
+const _: () = prove!(NOT_WRITTEN_THROUGH + 1 == FACT_BITS);
 
-const _: () = prove!(ALL_BYTES == (1 << NOT_OWN_ALLOCA) - (1 << BYTES_1));
-
-#[cfg(test)]
-mod tests {
-    use super::*;
-    use crate::word::FACT_BITS;
-
-    #[test]
-    fn each_bit_has_a_number_of_its_own(rt: HostRuntime) {
-        let bits = [
-            SAME_AS_PARAMETER_0,
-            SAME_AS_PARAMETER_1,
-            SAME_AS_PARAMETER_2,
-            SAME_AS_PARAMETER_3,
-            SAME_AS_PARAMETER_4,
-            SAME_AS_PARAMETER_5,
-            SAME_AS_PARAMETER_6,
-            SAME_AS_PARAMETER_7,
-            SAME_AS_PARAMETER_8,
-            SAME_AS_PARAMETER_9,
-            SAME_AS_PARAMETER_10,
-            SAME_AS_PARAMETER_11,
-            SAME_AS_PARAMETER_12,
-            SAME_AS_PARAMETER_13,
-            SAME_AS_PARAMETER_14,
-            SAME_AS_PARAMETER_15,
-            NONNULL,
-            ALIGN_2,
-            ALIGN_4,
-            ALIGN_8,
-            ALIGN_16,
-            ALIGN_32,
-            ALIGN_64,
-            BYTES_1,
-            BYTES_2,
-            BYTES_4,
-            BYTES_8,
-            BYTES_12,
-            BYTES_16,
-            BYTES_20,
-            BYTES_24,
-            BYTES_32,
-            BYTES_40,
-            BYTES_48,
-            BYTES_64,
-            BYTES_96,
-            BYTES_128,
-            BYTES_256,
-            BYTES_1024,
-            NOT_OWN_ALLOCA,
-            NOT_ARGUMENT,
-            NOT_GLOBAL,
-            NOT_UNKNOWN,
-            CAPTURED_BY_RETURN_ALONE,
-            NOT_RETURNED,
-            NOT_READ_THROUGH,
-            NOT_WRITTEN_THROUGH,
-        ];
-        for (number, bit) in (0..FACT_BITS).zip(bits.iter()) {
-            assert_eq!(rt; *bit, number);
-        }
-    }
-}
+const _: () = prove!(ALL == ALL_SAME | 1 << NONNULL | ALL_ALIGN | ALL_BYTES | ALL_BASE | ALL_USES);

@@ -1,9 +1,10 @@
 -- The lists that lie in a run: one entry more, a longer run, another place, fewer entries.
-use Rattle.std.proofs.Common.{◌≡◌, ◌≢◌, ℕ, zero, suc, ◌+◌, ◌-◌, ◌<◌, ◌≤◌, length, map, get_or, slice_get, slice_set, take, drop, replicate, List, [], ◌∷◌, ◌++◌, Some, arith, refl, sym, ap, ◌∙◌, inl, inr, length-drop}
+use Rattle.std.proofs.Common.{◌≡◌, ◌≢◌, ℕ, zero, suc, ◌+◌, ◌-◌, ◌<◌, ◌≤◌, length, map, get_or, slice_get, slice_set, take, drop, replicate, List, [], ◌∷◌, ◌++◌, Some, arith, refl, sym, ap, ◌∙◌, inl, inr, length-drop, min, length-take}
 use Rattle.std.proofs.lemmas.List.{drop-append-le, take-append-le, drop-set-add, drop-set-lt, take-set-le, take_more_set, take-take, length-map}
 use Rattle.std.proofs.lemmas.Bool.{cases_lt}
 use Rattle.std.specs.Option.{option_map}
-use Rattle.std.proofs.lemmas.Option.{slice_get-map, get_or_from_slice_get}
+use Rattle.std.proofs.lemmas.Option.{slice_get-map, get_or_from_slice_get, none-some}
+use Rattle.std.proofs.Math.Nat.{min-le_right}
 use Rattle.attr_ids.specs.declared.ids.PosId.{PosId}
 use Rattle.row_lists.specs.EdgeRow.{EdgeRow, empty_row, row_at, with_edge, cut_to}
 use Rattle.row_lists.specs.Inside.{edges_at}
@@ -55,6 +56,17 @@ map_all f (x ∷ xs) n y e h =
     let here = h 0 x refl in
     let rest = map_all f xs (length xs) y refl (λ k. h (suc k)) in
     (λ i. here i ∷ rest i) ∙ ap (λ (k : ℕ). replicate k y) e
+
+-- ---- a run holds each of its lists
+
+-- each list is a part of the run
+pub part_fits : {X : Type 0} (xs ys : List X) (rows : List Row) (at : ℕ) → slice_get (map (listed xs) rows) at ≡ Some ys → length ys ≤ length xs
+part_fits xs ys [] at e = absurd (none-some ys e)
+part_fits xs ys (row ∷ rows) zero e =
+    let rest : List _ = drop row.from xs in
+    let is : length ys ≡ min row.len (length rest) = ap length (sym (some_is e)) ∙ length-take row.len rest in
+    omega (arith, is, min-le_right row.len (length rest), length-drop row.from xs)
+part_fits xs ys (row ∷ rows) (suc at) e = part_fits xs ys rows at e
 
 -- ---- a longer run
 

@@ -6,8 +6,6 @@
 mod edge_rows;
 mod layout;
 mod rows;
-#[cfg(test)]
-mod tests;
 mod words;
 
 pub use edge_rows::EdgeRows;

@@ -1,4 +1,4 @@
-ghost use Rattle.std.specs.Prelude.{◌≡◌, ◌<◌, ◌++◌, ℕ, List, [], ◌∷◌, length, map, replicate, slice_get, slice_set, Some, OnOk, OnErr, IfOk};
+ghost use Rattle.std.specs.Prelude.{◌≡◌, ◌<◌, ◌≤◌, ◌++◌, ℕ, List, [], ◌∷◌, length, map, replicate, slice_get, slice_set, Some, OnOk, OnErr, IfOk};
 ghost use Rattle.row_lists.specs.Lists.{listed, IsLaid};
 
 use crate::layout::{Row, grown, lengthen, places};
@@ -63,6 +63,13 @@ impl<T: Copy> Rows<T> {
         ensures { result ≡ length self.now }
     {
         self.rows.len()
+    }
+
+    /// How many entries the run of memory has, with those that no list uses yet or any more.
+    pub fn run_len(&self) -> usize
+        ensures { (at : ℕ) (xs : List T) → slice_get self.now at ≡ Some xs → length xs ≤ result }
+    {
+        self.run.len()
     }
 
     /// The entries of a list.

@@ -7,6 +7,7 @@ use Rattle.std.proofs.lemmas.List.Sums.{fold-append, fold_push}
 use Rattle.std.proofs.lemmas.List.Elements.{All-map, All-nil, All-push}
 use Rattle.std.proofs.lemmas.Option.{slice_get-get_or, slice_get_read, slice_get-map, get_or_from_slice_get, same_Some, none-some}
 use Rattle.attr_ids.specs.declared.ids.PosId.{PosId}
+use Rattle.lattice_words.specs.declared.word.TheConstants.{FACT_BITS}
 use Rattle.smallvec.specs.SmallVec.{SmallVec}
 use Rattle.row_lists.specs.EdgeRow.{EdgeRow, empty_row, row_at}
 use Rattle.rule_terms.specs.declared.system.System.TheInside.{Inside}
@@ -336,7 +337,7 @@ module _ (count : ℕ) (slots : List Term) where
   empty_has_reads : (mask : ℕ) → HasReads slots mask empty_rule
   empty_has_reads mask = record { long = refl; bits = λ i. refl }
 
-pub new_kept : (a : Inside) → length a.masks < 2 ^ 32 → All (λ mask. mask < 2 ^ 47) a.masks → a.rows ≡ replicate (length a.masks) empty_row → AreEmptyLists (length a.masks) (map (λ (places : SmallVec TermId). places.items) a.places.items) →
+pub new_kept : (a : Inside) → length a.masks < 2 ^ 32 → All (λ mask. mask < 2 ^ FACT_BITS) a.masks → a.rows ≡ replicate (length a.masks) empty_row → AreEmptyLists (length a.masks) (map (λ (places : SmallVec TermId). places.items) a.places.items) →
     a.pool.slots.items ≡ [] → a.pool.inputs.items ≡ [] → length a.pool.marks.items ≡ length a.masks → IsKept a
 new_kept a fits facts rows places slots inputs marks =
     let rules = empty_rules a rows places in

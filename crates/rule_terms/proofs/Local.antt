@@ -7,6 +7,7 @@ use Rattle.std.proofs.lemmas.List.Elements.{All-head, All-tail, All-get_or}
 use Rattle.std.proofs.lemmas.List.{get_or_past}
 use Rattle.std.proofs.lemmas.Nat.{and_le_l}
 use Rattle.std.proofs.lemmas.Nat.Bits.{bit_at_and, bit_at_or, bit_at-lt, bit_at-zero, bit_at-pow_same, bit_at_mask_below, bit_at_mask_above, same_from_bits_below}
+use Rattle.lattice_words.specs.declared.word.TheConstants.{FACT_BITS}
 use Rattle.lattice_words.specs.Ladders.{shift_of, is_byte_bit}
 use Rattle.lattice_words.specs.declared.value.TheConstants.{ALL_BYTES}
 use Rattle.lattice_words.proofs.LadderBits.{bit_at-shift_of-other, byte_bit}
@@ -174,7 +175,7 @@ cut_same mask x y small agree =
 
 mask_fits : (s : System) → IsSystem s → (p : ℕ) → slice_index s.masks p < 2 ^ 64
 mask_fits s is p = elim (cases_lt p (length s.masks)) [
-  | inl within ↦ omega (arith, All-get_or (λ mask. mask < 2 ^ 47) s.masks p 0 within is.facts)
+  | inl within ↦ omega (arith, All-get_or (λ mask. mask < 2 ^ FACT_BITS) s.masks p 0 within is.facts)
   | inr past ↦ omega (arith, get_or_past s.masks p 0 past)
 ]
 

@@ -32,6 +32,10 @@ goes_on_trans a b c ab bc = record {
   size = bc.size ∙ ab.size;
 }
 
+-- the same over two pools in between
+pub goes_on_twice : (a b c d : Pool) → GoesOn a b → GoesOn b c → GoesOn c d → GoesOn a d
+goes_on_twice a b c d ab bc cd = goes_on_trans a b d ab (goes_on_trans b c d bc cd)
+
 -- one more slot stands behind its parts, too
 pub AreOrdered-push : (slots : List Term) (slot : Term) → AreOrdered slots → IsBehind (length slots) slot → AreOrdered (slots ++ slot ∷ [])
 AreOrdered-push slots slot ordered behind k s e = elim (slice_get-push slots slot k s e) [

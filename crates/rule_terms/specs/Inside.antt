@@ -1,5 +1,6 @@
 -- A system by its fields.
 use Rattle.std.specs.Prelude.{◌≡◌, ◌^◌, ◌<◌, List, length, map, All}
+use Rattle.lattice_words.specs.declared.word.TheConstants.{FACT_BITS}
 use Rattle.smallvec.specs.SmallVec.{SmallVec}
 use Rattle.row_lists.specs.EdgeRow.{row_at}
 use Rattle.rule_terms.specs.declared.term.TermId.{TermId}
@@ -17,7 +18,7 @@ shown a = record { masks = a.masks; terms = map (met_terms a.pool.slots.items) (
 
 pub record IsKept (a : Inside) : Type 0 where
   pub fits : length a.masks < 2 ^ 32
-  pub facts : All (λ mask. mask < 2 ^ 47) a.masks
+  pub facts : All (λ mask. mask < 2 ^ FACT_BITS) a.masks
   pub rows : length a.rows ≡ length a.masks
   pub places : length a.places.items ≡ length a.masks
   pub marks : length a.pool.marks.items ≡ length a.masks

@@ -2,6 +2,7 @@
 use Rattle.std.specs.Prelude.{◌≡◌, ℕ, ◌^◌, ◌<◌, ◌==◌, if◌then◌else◌, IsTrue, List, [], ◌∷◌, ◌++◌, length, slice_index, slice_index_or, slice_set, All, replicate}
 use Rattle.std.specs.List.{flat_map}
 use Rattle.attr_ids.specs.declared.ids.PosId.{PosId}
+use Rattle.lattice_words.specs.declared.word.TheConstants.{FACT_BITS}
 use Rattle.rule_terms.specs.declared.term.NewTerm.{NewTerm}
 use Rattle.rule_terms.specs.Meaning.{meet_of}
 use Rattle.rule_terms.specs.Names.{names_of, with_names, is_over}
@@ -48,5 +49,5 @@ value_at s p looked = value s p (looked_word (inputs_of s p) looked)
 pub record IsSystem (s : System) : Type 0 where
   pub fits : length s.masks < 2 ^ 32
   pub long : length s.terms ≡ length s.masks
-  pub facts : All (λ mask. mask < 2 ^ 47) s.masks
+  pub facts : All (λ mask. mask < 2 ^ FACT_BITS) s.masks
   pub over : All (λ terms. All (λ term. IsTrue (is_over (length s.masks) term)) terms) s.terms

@@ -1,4 +1,5 @@
 ghost use Rattle.std.specs.Prelude.{◌≡◌, ◌^◌, ◌<◌, length, map, All, IfOk, OnOk, OnErr, IsTrue, slice_index};
+ghost use Rattle.lattice_words.specs.declared.word.TheConstants.{FACT_BITS};
 ghost use Rattle.rule_terms.specs.Kept.{AreEmptyLists};
 ghost use Rattle.rule_terms.specs.Names.{is_over};
 ghost use Rattle.rule_terms.specs.Reads.{reads_at};
@@ -57,7 +58,7 @@ impl System {
     /// A system in which the term of each position is its mask.
     pub fn new(alloc: Global, masks: WordList) -> Result<System, NoMemory>
         requires fits { length masks < 2 ^ 32 }
-        requires facts { All (λ mask. mask < 2 ^ 47) masks }
+        requires facts { All (λ mask. mask < 2 ^ FACT_BITS) masks }
         ensures { IfOk result (λ system. system ≡ with_masks masks) }
     {
         let count = masks.len();
@@ -108,7 +109,7 @@ impl System {
     pub fn mask(&self, p: PosId) -> u64
         requires { p.0 < length self.now.masks }
         ensures mask { result ≡ slice_index self.now.masks p.0 }
-        ensures facts { result < 2 ^ 47 }
+        ensures facts { result < 2 ^ FACT_BITS }
     {
         self.masks.as_slice()[p.0 as usize]
     }
@@ -157,6 +158,3 @@ impl System {
         self.rows.bits(p.0 as usize)[i as usize]
     }
 }
-
-#[cfg(test)]
-mod tests;

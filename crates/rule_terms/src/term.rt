@@ -2,12 +2,12 @@ use attr_ids::PosId;
 use sqlite_items::Boxed;
 
 /// A place in the list of terms of a system.
-#[derive(Clone, Copy, Debug, Default, PartialEq, Eq)]
+#[derive(Clone, Copy, Default)]
 pub struct TermId(pub u64);
 
 /// A term as a system keeps it. It names an input by its number among the inputs of the position
 /// that the term belongs to, and each of its parts by a place in the system's list of terms.
-#[derive(Clone, Copy, Debug)]
+#[derive(Clone, Copy)]
 pub enum Term {
     Const(u64),
     Word(u32),
@@ -20,7 +20,7 @@ pub enum Term {
 }
 
 /// A monotone function of the words of positions, to be met into a position's term.
-#[derive(Debug, Drop)]
+#[derive(Drop)]
 pub enum NewTerm {
     /// These bits, whatever the words are.
     Const(u64),

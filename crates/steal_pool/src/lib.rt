@@ -13,6 +13,3 @@ mod robber;
 pub use opening::pools;
 pub use pool::{OwnPool, OwnPools, SLOTS};
 pub use robber::{Robbed, Robber, Robbers};
-
-#[cfg(test)]
-mod tests;

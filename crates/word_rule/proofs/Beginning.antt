@@ -6,9 +6,10 @@ use Rattle.std.proofs.lemmas.List.Sums.{get_or-le-sum_by}
 use Rattle.std.proofs.lemmas.List.Elements.{All-get_or}
 use Rattle.std.proofs.lemmas.Option.{same_Some, none-some}
 use Rattle.attr_ids.specs.declared.ids.PosId.{PosId}
+use Rattle.lattice_words.specs.declared.word.TheConstants.{DIRTY}
 use Rattle.rule_terms.specs.Slots.{input_at}
 use Rattle.rule_terms.specs.System.{System, inputs_of, IsSystem}
-use Rattle.dep_graph.specs.declared.graph.Row.{Row}
+use Rattle.dep_graph.specs.Row.{Row}
 use Rattle.dep_graph.specs.Graph.{empty_row, row_at, edge_count, IsGraphOf}
 use Rattle.dep_graph.proofs.Naming.{inputs_within}
 use Rattle.fix_core.specs.Machine.{facts_of, dirtied, opening_words}
@@ -37,7 +38,7 @@ opening_next workers k (m ∷ ms) (suc p) l =
     ap (λ xs. dirtied m (k % workers) ∷ xs) (opening_next workers (suc k) ms p (omega (arith, l))
     ∙ ap (λ x. opening_words workers (suc k) (take p ms) ++ dirtied (slice_index ms p) (x % workers) ∷ []) e)
 
-pub opening_more : (workers : ℕ) (masks : List ℕ) (p word bit : ℕ) → p < length masks → word ≡ slice_index masks p → bit ≡ 2 ^ (48 + p % workers) →
+pub opening_more : (workers : ℕ) (masks : List ℕ) (p word bit : ℕ) → p < length masks → word ≡ slice_index masks p → bit ≡ 2 ^ (DIRTY + p % workers) →
     opening_words workers 0 (take p masks) ++ bit_or word bit ∷ [] ≡ opening_words workers 0 (take (p + 1) masks)
 opening_more workers masks p word bit l is one =
     let e : 0 + p ≡ p = omega arith in

@@ -10,7 +10,7 @@ use Rattle.std.proofs.lemmas.List.Sums.{sum_by_push, sum_by-cons}
 use Rattle.std.proofs.lemmas.Option.{same_Some, none-some, slice_get_within, get_or_from_slice_get}
 use Rattle.rule_terms.specs.System.{System}
 use Rattle.rule_terms.specs.Greatest.{AreWithin, IsAbove, IsGreatest}
-use Rattle.dep_graph.specs.declared.graph.Row.{Row}
+use Rattle.dep_graph.specs.Row.{Row}
 use Rattle.dep_graph.specs.Graph.{budget_of}
 use Rattle.fix_core.specs.declared.state.CoreMode.TheVariants.{Idle}
 use Rattle.fix_core.specs.Machine.{facts_of, new_seat}

@@ -11,10 +11,11 @@ use Rattle.std.proofs.lemmas.Option.{same_Some}
 use Rattle.atomic_table.specs.Table.{State, Splits, Joins, opening}
 use Rattle.atomic_table.proofs.Lists.{at_set, set_here, set_else, at_longer}
 use Rattle.attr_ids.specs.declared.ids.PosId.{PosId}
+use Rattle.lattice_words.specs.declared.word.TheConstants.{DIRTY}
 use Rattle.rule_terms.specs.Names.{has_name}
 use Rattle.rule_terms.specs.System.{System, IsSystem}
 use Rattle.rule_terms.specs.Greatest.{IsGreatest}
-use Rattle.dep_graph.specs.declared.graph.Row.{Row}
+use Rattle.dep_graph.specs.Row.{Row}
 use Rattle.dep_graph.specs.Graph.{IsGraphOf}
 use Rattle.fix_core.specs.declared.state.CoreSeat.{CoreSeat}
 use Rattle.fix_core.specs.declared.state.CoreMode.TheVariants.{Idle}
@@ -276,7 +277,7 @@ module _ (k : Key) (t : State (Unit {0}) View) (r : IsRuled k t) (v : View) (at 
     ]
   ] where
     no_word : length r.core.words ≤ p → dirty_at (slice_index r.core.words p) w ≡ 0
-    no_word h = ap (λ n. dirty_at n w) (get_or_past r.core.words p 0 h) ∙ bit_at_above 0 48 (48 + w) (omega arith) (omega arith)
+    no_word h = ap (λ n. dirty_at n w) (get_or_past r.core.words p 0 h) ∙ bit_at_above 0 DIRTY (DIRTY + w) (omega arith) (omega arith)
 
   idle_at : (w : ℕ) (seat : CoreSeat) → slice_get r.core.seats w ≡ Some seat → seat.mode ≡ Idle
   idle_at w seat e = elim (seat_cases t.views (k.workers - length t.views) w seat (ap (λ seats. slice_get seats w) (sym r.seats) ∙ e)) [

@@ -6,4 +6,3 @@ pub mod Rooms
 pub mod Remembering
 pub mod Beginning
 pub mod Gathering
-pub mod Trying

@@ -2,6 +2,7 @@
 use Rattle.std.proofs.Common.{◌≡◌, ℕ, zero, suc, ◌+◌, ◌*◌, ◌%◌, ◌^◌, ◌<◌, false, if◌then◌else◌, List, [], ◌∷◌, length, set, replicate, Option, Some, None, refl, ap, sym, ◌∙◌, subst, arith}
 use Rattle.std.proofs.Math.Pow.{pow-lt}
 use Rattle.attr_ids.specs.declared.ids.PosId.{PosId}
+use Rattle.lattice_words.specs.declared.word.TheConstants.{DIRTY}
 use Rattle.rule_terms.specs.Slots.{input_at}
 use Rattle.rule_terms.specs.System.{System, inputs_of}
 use Rattle.fix_core.specs.declared.state.CoreSeat.{CoreSeat}
@@ -56,10 +57,10 @@ looked_became k s old new i word place p list is system some_place kept mode l a
     looks.seat i (subst (λ (x : System). i < length (inputs_of x (opened old.0.core.mode).0)) (sym same) l) (ap (λ (ps : List PosId). (input_at ps i).0) inputs)
 
 -- the seat's own bit, as the code has it
-pub own_bit : (n m : ℕ) → n ≡ m → n < 16 → (1 * 2 ^ (48 + n)) % 18446744073709551616 ≡ 2 ^ (48 + m)
+pub own_bit : (n m : ℕ) → n ≡ m → n < 16 → (1 * 2 ^ (DIRTY + n)) % 18446744073709551616 ≡ 2 ^ (DIRTY + m)
 own_bit n m is few =
-    let small : 2 ^ (48 + n) < 2 ^ 64 = (let l : 48 + n < 64 = omega arith in pow-lt l) in
-    let same : 2 ^ (48 + n) ≡ 2 ^ (48 + m) = ap (λ x. 2 ^ (48 + x)) is in
-    own (2 ^ (48 + n)) small ∙ same where
+    let small : 2 ^ (DIRTY + n) < 2 ^ 64 = (let l : DIRTY + n < 64 = omega arith in pow-lt l) in
+    let same : 2 ^ (DIRTY + n) ≡ 2 ^ (DIRTY + m) = ap (λ x. 2 ^ (DIRTY + x)) is in
+    own (2 ^ (DIRTY + n)) small ∙ same where
       own : (x : ℕ) → x < 18446744073709551616 → (1 * x) % 18446744073709551616 ≡ x
       own x l = omega arith

@@ -6,7 +6,7 @@ use Rattle.attr_ids.specs.declared.ids.PosId.{PosId}
 use Rattle.rule_terms.specs.Slots.{input_at}
 use Rattle.rule_terms.specs.System.{System, inputs_of}
 use Rattle.rule_terms.proofs.Naming.{inputs-once}
-use Rattle.dep_graph.specs.declared.graph.Row.{Row}
+use Rattle.dep_graph.specs.Row.{Row}
 use Rattle.dep_graph.specs.Graph.{row_at}
 use Rattle.word_rule.specs.declared.view.Key.{Key}
 use Rattle.fix_core.specs.declared.state.CoreMode.{CoreMode}

@@ -10,9 +10,10 @@ use Rattle.std.proofs.lemmas.Option.{none-some, same_Some}
 use Rattle.atomic_table.specs.Table.{State, Allows, keeps}
 use Rattle.atomic_table.proofs.Lists.{at_set, set_here, set_else}
 use Rattle.attr_ids.specs.declared.ids.PosId.{PosId}
+use Rattle.lattice_words.specs.declared.word.TheConstants.{DIRTY, FACT_BITS}
 use Rattle.rule_terms.specs.Slots.{input_at}
 use Rattle.rule_terms.specs.System.{System, inputs_of, value_at}
-use Rattle.dep_graph.specs.declared.graph.Row.{Row}
+use Rattle.dep_graph.specs.Row.{Row}
 use Rattle.dep_graph.specs.Graph.{budget_of, IsGraphOf}
 use Rattle.fix_core.specs.declared.state.CoreState.{CoreState}
 use Rattle.fix_core.specs.declared.state.CoreSeat.{CoreSeat}
@@ -147,7 +148,7 @@ same_entry (x ∷ xs) (suc w) seat e = λ j. x ∷ same_entry xs w seat e j
 
 -- a cut leaves dirty bits that are unset as they are
 cut_stays : (new n j : ℕ) → dirty_at n j ≡ 0 → dirty_at (cut_to new n) j ≡ 0
-cut_stays new n j h = omega (arith, bit_at_and n (bit_or new (2 ^ 64 - 2 ^ 47)) (48 + j), h)
+cut_stays new n j h = omega (arith, bit_at_and n (bit_or new (2 ^ 64 - 2 ^ FACT_BITS)) (DIRTY + j), h)
 
 -- ---- taking up
 took_up : (k : Key) (me : Mine) (p : PosId) (n : ℕ) → me.0.about ≡ Some k → (after_take k.system.value p n me.0.core).took ≤ budget_of k.system.value k.graph.value →
@@ -158,7 +159,7 @@ took_up k me p n about few = record {
 }
 
 pub takes : (k : Key) (slots id : ℕ) (me : Mine) (p : PosId) → me.0.about ≡ Some k → me.0.core.mode ≡ Idle → p.0 < length k.system.value.masks →
-    Allows (IsRuled k) slots id me p.0 (λ n. bit_and n (2 ^ 48 - 1)) (λ n new. Takes p.0 me n new)
+    Allows (IsRuled k) slots id me p.0 (λ n. bit_and n (2 ^ DIRTY - 1)) (λ n new. Takes p.0 me n new)
 takes k slots id me p about idle l t r _ at _ =
     let s : System = k.system.value in
     let g : List Row = k.graph.value in
@@ -212,7 +213,7 @@ mode_owes s g (Owes list) h d has = h
 
 pub cuts : (k : Key) (slots id : ℕ) (me : Mine) (new : ℕ) → me.0.about ≡ Some k → me.0.core.mode ≡ Open (opened me.0.core.mode) (looked_in me.0.core.mode) →
     (opened me.0.core.mode).0 < length k.system.value.masks → has_all (looked_in me.0.core.mode) ≡ true → new ≡ new_facts me.0 →
-    Allows (IsRuled k) slots id me (opened me.0.core.mode).0 (λ n. bit_and n (bit_or new (2 ^ 64 - 2 ^ 47))) (λ n after. Cuts me n after)
+    Allows (IsRuled k) slots id me (opened me.0.core.mode).0 (λ n. bit_and n (bit_or new (2 ^ 64 - 2 ^ FACT_BITS))) (λ n after. Cuts me n after)
 cuts k slots id me new about mode l all is t r _ at _ =
     let s : System = k.system.value in
     let g : List Row = k.graph.value in
@@ -253,7 +254,7 @@ mode_is Idle d has = absurd (omega (arith, has.1))
 mode_is (Open p looked) d has = absurd (omega (arith, has.1))
 mode_is (Owes list) d has = refl
 
-pub tells : (k : Key) (slots id : ℕ) (me : Mine) (d : PosId) (bit : ℕ) → me.0.about ≡ Some k → d.0 < length k.system.value.masks → Contains (owed_in me.0.core.mode) d → bit ≡ 2 ^ (48 + me.0.number) →
+pub tells : (k : Key) (slots id : ℕ) (me : Mine) (d : PosId) (bit : ℕ) → me.0.about ≡ Some k → d.0 < length k.system.value.masks → Contains (owed_in me.0.core.mode) d → bit ≡ 2 ^ (DIRTY + me.0.number) →
     Allows (IsRuled k) slots id me d.0 (λ n. bit_or n bit) (λ n after. Tells d.0 me n after)
 tells k slots id me d bit about l has is t r _ at _ =
     let s : System = k.system.value in
@@ -267,17 +268,17 @@ tells k slots id me d bit about l has is t r _ at _ =
     let same : slice_index r.core.words d.0 ≡ n = sym (word_is k t r d.0 l) in
     let core : IsCore s g k.workers (written r.core d.0 (bit_or n bit) id c) =
     subst (λ (y : ℕ × ℕ × ℕ). IsCore s g k.workers (written r.core d.0 (bit_or y.0 y.1) id (after_tell y.2 d list y.0 me.0.core)))
-    (λ j. (same j, (ap (λ x. 2 ^ (48 + x)) (sym number) ∙ sym is) j, sym number j))
+    (λ j. (same j, (ap (λ x. 2 ^ (DIRTY + x)) (sym number) ∙ sym is) j, sym number j))
     (tell_kept s g k.workers r.few r.core r.keeps id me.0.core there d list l mode) in
     let counted : AreCounted s g (written r.core d.0 (bit_or n bit) id c) =
     subst (λ (y : ℕ × ℕ × ℕ). AreCounted s g (written r.core d.0 (bit_or y.0 y.1) id (after_tell y.2 d list y.0 me.0.core)))
-    (λ j. (same j, (ap (λ x. 2 ^ (48 + x)) (sym number) ∙ sym is) j, sym number j))
+    (λ j. (same j, (ap (λ x. 2 ^ (DIRTY + x)) (sym number) ∙ sym is) j, sym number j))
     (tell_counted s g r.graph k.workers r.core r.keeps r.counts id me.0.core there d list l mode has) in (
       stepped_to me.0 n c,
       keeps,
       tt,
       writes k t r id me.0 at about d.0 (bit_or n bit) n c l
-          (λ j ne h. subst (λ b. dirty_at (bit_or n b) j ≡ 0) (ap (λ x. 2 ^ (48 + x)) (sym number) ∙ sym is) (dirtied_other n id j ne ∙ ap (λ x. dirty_at x j) (sym same) ∙ h)) core counted,
+          (λ j ne h. subst (λ b. dirty_at (bit_or n b) j ≡ 0) (ap (λ x. 2 ^ (DIRTY + x)) (sym number) ∙ sym is) (dirtied_other n id j ne ∙ ap (λ x. dirty_at x j) (sym same) ∙ h)) core counted,
       record {
         seat = record { view = refl; slots = refl };
         once = (contains_inside s g k.workers r.core r.keeps id me.0.core there d has).once;

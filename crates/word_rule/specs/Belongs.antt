@@ -1,7 +1,7 @@
 -- What contracts say of the seats of a table.
 use Rattle.std.specs.Prelude.{◌≡◌, ℕ, ◌<◌, List, length, Some, slice_get, Contains}
 use Rattle.rule_terms.specs.System.{System}
-use Rattle.dep_graph.specs.declared.graph.Row.{Row}
+use Rattle.dep_graph.specs.Row.{Row}
 use Rattle.fix_core.specs.declared.state.CoreSeat.{CoreSeat}
 use Rattle.fix_core.specs.declared.state.CoreMode.{CoreMode}
 use Rattle.fix_core.specs.declared.state.CoreMode.TheVariants.{Open}

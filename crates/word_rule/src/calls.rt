@@ -11,16 +11,8 @@ use crate::plays::{ClearStep, CutStep, LookStep, TakeStep, TellStep};
 use crate::seat::WorkerSeat;
 use crate::words::LatticeWords;
 use attr_ids::PosId;
+use lattice_words::word::{CLEAN, DIRTY, FACTS, KEPT};
 use rule_terms::System;
-
-/// Bits 0 to 46 of a word: its facts.
-pub(crate) const FACTS: u64 = (1 << 47) - 1;
-
-/// The bits of a word below its dirty bits.
-const CLEAN: u64 = (1 << 48) - 1;
-
-/// The bits of a word that a cut leaves as they are.
-const KEPT: u64 = !FACTS;
 
 impl<'s> LatticeWords<'s> {
     /// The system whose positions have these words.
@@ -45,7 +37,7 @@ impl<'s> LatticeWords<'s> {
             .table
             .shared
             .fetch_and::<TakeStep>(&mut seat.seat, p.0 as usize, CLEAN);
-        if word >> 48 == 0 {
+        if word >> DIRTY == 0 {
             return None;
         }
         clear_to(&mut seat.looked, self.system.inputs(p).len());
@@ -123,7 +115,7 @@ impl<'s> LatticeWords<'s> {
         ensures told { core_of seat.new ≡ after_tell (number_of seat.old) d (owed_in (core_of seat.old).mode) (found_by seat.new) (core_of seat.old) }
         ensures answer { result ≡ (dirty_at (found_by seat.new) (number_of seat.old) == 0) }
     {
-        let place = 48 + seat.number;
+        let place = DIRTY + seat.number as u32;
         let word = self
             .table
             .shared
@@ -145,6 +137,6 @@ impl<'s> LatticeWords<'s> {
             .table
             .shared
             .load::<ClearStep>(&mut seat.seat, p.0 as usize);
-        word >> (48 + seat.number) & 1 == 0
+        word >> (DIRTY + seat.number as u32) & 1 == 0
     }
 }

@@ -8,12 +8,12 @@ ghost use Rattle.word_rule.specs.Views.{after_joining};
 ghost use Rattle.word_rule.specs.Ends.{Ended, HasTaken};
 ghost use Rattle.word_rule.specs.Belongs.{core_of, number_of, system_in, graph_in, IsSeatOf, AreSeatsOf, KnowsAll};
 
-use crate::calls::FACTS;
 use crate::seat::{WorkerSeat, WorkerSeats};
 use crate::view::Joining;
 use crate::words::LatticeWords;
 use atomic_table::{Closed, Seat};
 use attr_ids::WordList;
+use lattice_words::word::FACTS;
 use std::alloc::Global;
 
 /// Puts the facts of the first so many words into the list.

@@ -12,8 +12,6 @@ mod lists;
 mod opening;
 mod plays;
 mod seat;
-#[cfg(test)]
-mod tests;
 mod view;
 mod words;
 

@@ -27,7 +27,7 @@ pub(crate) fn owe(list: &mut Vec<PosId>, g: &DepGraph, p: PosId, lost: u64)
     ensures capacity { vec_capacity list.new ≡ vec_capacity list.old }
 {
     list.clear();
-    let dependents = g.of(p).as_slice();
+    let dependents = g.of(p);
     for (j, d) in dependents.iter().enumerate() {
         if g.read_by(p, j as u32) & lost != 0 {
             list.push_reserved(*d);

@@ -12,6 +12,7 @@ use crate::words::LatticeWords;
 use atomic_table::{Seat, Table};
 use attr_ids::{NoMemory, PosId, Sequence};
 use dep_graph::DepGraph;
+use lattice_words::word::DIRTY;
 use rule_terms::System;
 use std::alloc::Global;
 use std::snapshot::Snapshot;
@@ -25,7 +26,7 @@ fn opening_list(alloc: Global, s: &System, workers: u8) -> Result<Vec<u64>, NoMe
     let mut words = Vec::with_capacity(alloc, s.count() as usize + 1)?;
     for p in 0..s.count() {
         let seat = p % workers as u32;
-        words.push(s.mask(PosId(p)) | 1 << (48 + seat))?;
+        words.push(s.mask(PosId(p)) | 1 << (DIRTY + seat))?;
     }
     words.push(0)?;
     Ok(words)

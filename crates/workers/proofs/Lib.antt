@@ -3,4 +3,4 @@ pub mod Looking
 pub mod Telling
 pub mod Knowing
 pub mod Moving
-pub mod Crewing
+pub mod Teaming

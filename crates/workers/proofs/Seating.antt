@@ -1,11 +1,12 @@
 -- A seat that a worker goes on with.
-use Rattle.std.proofs.Common.{ℕ, ◌+◌, refl, ap, ◌∙◌, arith}
+use Rattle.std.proofs.Common.{◌≡◌, ◌≤◌, refl, ap, sym, ◌∙◌, subst, inl, inr, arith}
 use Rattle.word_rule.specs.declared.seat.WorkerSeat.{WorkerSeat}
 use Rattle.word_rule.specs.declared.words.LatticeWords.{LatticeWords}
 use Rattle.word_rule.specs.declared.view.View.{View}
 use Rattle.word_rule.specs.Views.{stepped_to}
 use Rattle.word_rule.specs.Belongs.{core_of, found_by, IsSeatOf, IsSameSeat}
-use Rattle.workers.specs.Workers.{IsReady, HasTaken}
+use Rattle.workers.specs.declared.worker.Worker.{Worker}
+use Rattle.workers.specs.Workers.{IsWorkerOf, HasTaken}
 
 pub same_here : (seat : WorkerSeat) → IsSameSeat seat seat
 same_here seat = (refl, refl)
@@ -17,24 +18,28 @@ pub seat_again : (words : LatticeWords) (a b : WorkerSeat) → IsSameSeat a b �
 seat_again words a b same of = (same.0 ∙ of.0, ap (λ (v : View). v.about) same.1 ∙ of.1)
 
 -- ---- counted turns
-pub ready_again : (words : LatticeWords) (a b : WorkerSeat) (from to : ℕ) → HasTaken a b from to → IsReady words a → IsReady words b
-ready_again words a b from to taken ready = (seat_again words a b taken.same ready.0, taken.idle)
-
--- no word more
-pub taken_none : (words : LatticeWords) (seat : WorkerSeat) (n : ℕ) → IsReady words seat → HasTaken seat seat n n
-taken_none words seat n ready = record { same = same_here seat; idle = ready.1; took = refl }
-
--- so many more
-pub taken_more : (a b c : WorkerSeat) (from to more : ℕ) → HasTaken a b from to → HasTaken b c 0 more → HasTaken a c from (to + more)
-taken_more a b c from to more first second = record {
-  same = same_then a b c first.same second.same;
-  idle = second.idle;
-  took = (let p = first.took in let q = second.took in omega (arith, p, q));
+-- a worker that changed neither its seat nor its count, and has its pool and its robber still
+pub taken_none : (words : LatticeWords) (old new : Worker) → IsWorkerOf words old → IsWorkerOf words new → new.seat ≡ old.seat → new.taken ≡ old.taken → HasTaken words old new
+taken_none words old new was is seat taken = record {
+  worker = is;
+  same = subst (λ (s : WorkerSeat). IsSameSeat old.seat s) (sym seat) (same_here old.seat);
+  took = (let p = ap (λ (s : WorkerSeat). (core_of s).took) seat in omega (arith, p, taken));
+  rises = omega (arith, taken);
+  few = inl taken;
 }
 
-pub taken_then : (a b c : WorkerSeat) (from to end : ℕ) → HasTaken a b from to → HasTaken b c to end → HasTaken a c from end
-taken_then a b c from to end first second = record {
-  same = same_then a b c first.same second.same;
-  idle = second.idle;
+-- one stretch of a run after another
+pub taken_then : (words : LatticeWords) (a b c : Worker) → HasTaken words a b → HasTaken words b c → HasTaken words a c
+taken_then words a b c first second = record {
+  worker = second.worker;
+  same = same_then a.seat b.seat c.seat first.same second.same;
   took = (let p = first.took in let q = second.took in omega (arith, p, q));
+  rises = (let p = first.rises in let q = second.rises in omega (arith, p, q));
+  few = elim second.few [
+    | inr within ↦ inr within
+    | inl none ↦ (let q = second.took in elim first.few [
+      | inl before ↦ inl (none ∙ before)
+      | inr within ↦ inr (omega (arith, q, none, within))
+    ])
+  ];
 }

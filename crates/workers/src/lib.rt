@@ -5,14 +5,11 @@
 //! is spent has used up its turns.
 #![tactic(auto)]
 
-mod crew;
 mod round;
 mod run;
+mod team;
 mod turn;
 mod worker;
 
 pub use run::{Ran, run_all};
-pub use worker::run_worker;
-
-#[cfg(test)]
-mod tests;
+pub use worker::{Worker, run_worker};

@@ -3,9 +3,9 @@ ghost use Rattle.std.specs.Prelude.{◌≡◌, ◌*◌, ◌<◌, ◌≤◌, leng
 ghost use Rattle.attr_ids.specs.declared.status.WorkerEnd.TheVariants.{Done};
 ghost use Rattle.rule_terms.specs.Greatest.{AreWithin, IsAbove, IsGreatest};
 ghost use Rattle.dep_graph.specs.Graph.{IsGraphOf, budget_of};
-ghost use Rattle.workers.specs.Crews.{spent_count};
+ghost use Rattle.workers.specs.Workers.{spent_count};
 
-use crate::crew::{crews_of, parts_of, run_crews};
+use crate::team::{parts_of, run_team, team_of};
 use attr_ids::{EndList, NoMemory, WordList};
 use attr_io::Gate;
 use dep_graph::DepGraph;
@@ -44,9 +44,9 @@ pub fn run_all<R: Threads + Sync, G: Gate + Sync>(
 {
     let (words, seats) = LatticeWords::open(alloc, s, g, workers)?;
     let (pools, robbers) = pools(alloc, workers, s.count())?;
-    let mut crews = crews_of(alloc, seats, pools, robbers)?;
-    run_crews(rt, &words, crews.as_mut_slice(), turns, gate);
-    let (seats, ends) = parts_of(alloc, crews)?;
+    let mut team = team_of(alloc, seats, pools, robbers)?;
+    run_team(rt, &words, team.as_mut_slice(), turns, gate);
+    let (seats, ends) = parts_of(alloc, team)?;
     Ok(Ran {
         words: words.close(seats),
         ends,

@@ -1,16 +1,45 @@
-ghost use Rattle.std.specs.Prelude.{◌≡◌, ◌<◌, ◌+◌, ◌↔◌};
+//! One worker, and its run.
+ghost use Rattle.std.specs.Prelude.{◌≡◌, ◌<◌, ◌≤◌, ◌+◌, ◌↔◌};
 ghost use Rattle.attr_ids.specs.declared.status.WorkerEnd.TheVariants.{Done, Spent};
 ghost use Rattle.fix_core.specs.declared.state.CoreMode.TheVariants.{Idle};
-ghost use Rattle.word_rule.specs.Belongs.{core_of, workers_in, IsSameSeat, KnowsAll};
-ghost use Rattle.workers.specs.Workers.{count_in, IsReady, IsPoolOf};
-ghost use Rattle.steal_pool.specs.Pools.{IsRobberOf};
+ghost use Rattle.word_rule.specs.Belongs.{core_of, IsSameSeat, KnowsAll};
+ghost use Rattle.workers.specs.Workers.{budget_in, count_in, IsWorkerOf};
 
-use crate::round::round;
 use crate::turn::Shift;
 use attr_ids::WorkerEnd;
 use attr_io::Gate;
 use steal_pool::{OwnPool, Robber};
 use word_rule::{LatticeWords, WorkerSeat};
+
+/// One worker: its number, what it runs with, how many hints it takes its own pool to hold, how many turns of its run it
+/// has done, and how it ended. Until it has run it counts as spent.
+#[derive(Drop)]
+pub struct Worker {
+    pub number: u8,
+    pub seat: WorkerSeat,
+    pub own: OwnPool,
+    pub robber: Robber,
+    pub(crate) held: u32,
+    pub(crate) taken: u64,
+    pub end: WorkerEnd,
+}
+
+impl Worker {
+    /// A worker that has not run yet.
+    pub fn new(number: u8, seat: WorkerSeat, own: OwnPool, robber: Robber) -> Worker
+        ensures { (result.seat ≡ seat) × (result.own ≡ own) × (result.robber ≡ robber) }
+    {
+        Worker {
+            number,
+            seat,
+            own,
+            robber,
+            held: 0,
+            taken: 0,
+            end: WorkerEnd::Spent,
+        }
+    }
+}
 
 /// The most hints that a worker's own pool is to hold, where so many workers have a pool each. All pools together
 /// hold at most one for every four positions, or few.
@@ -19,41 +48,36 @@ fn most_hints(count: u32, pools: usize) -> u32 {
     (count / 4 / pools).max(1024)
 }
 
-/// Goes round after round until a round takes no dirty word up, and does at most so many turns.
+/// Goes round after round until a round takes no dirty word up, and does at most so many turns. With more turns than
+/// the budget it is never spent.
 pub fn run_worker<G: Gate>(
     words: &LatticeWords,
-    seat: &mut WorkerSeat,
-    own: &mut OwnPool,
-    robber: &mut Robber,
-    worker: u8,
+    worker: &mut Worker,
     turns: u64,
     gate: &G,
 ) -> WorkerEnd
-    requires ready { IsReady words.now seat.old }
-    requires pool { IsPoolOf (count_in words.now) own.old }
-    requires robber { IsRobberOf (workers_in words.now) (count_in words.now) robber.old }
-    ensures same { IsSameSeat seat.old seat.new }
-    ensures idle { (core_of seat.new).mode ≡ Idle }
-    ensures spent { (result ≡ Spent) ↔ ((core_of seat.new).took ≡ (core_of seat.old).took + turns) }
-    ensures done { (result ≡ Done) ↔ ((core_of seat.new).took < (core_of seat.old).took + turns) }
-    ensures known { result ≡ Done → KnowsAll (count_in words.now) (core_of seat.new) }
-    ensures pool { IsPoolOf (count_in words.now) own.new }
-    ensures robber { IsRobberOf (workers_in words.now) (count_in words.now) robber.new }
+    requires { IsWorkerOf words.now worker.old }
+    ensures same { IsSameSeat worker.old.seat worker.new.seat }
+    ensures idle { (core_of worker.new.seat).mode ≡ Idle }
+    ensures spent { (result ≡ Spent) ↔ ((core_of worker.new.seat).took ≡ (core_of worker.old.seat).took + turns) }
+    ensures done { (result ≡ Done) ↔ ((core_of worker.new.seat).took < (core_of worker.old.seat).took + turns) }
+    ensures enough { budget_in words.now < turns → result ≡ Done }
+    ensures known { result ≡ Done → KnowsAll (count_in words.now) (core_of worker.new.seat) }
+    ensures worker { IsWorkerOf words.now worker.new }
 {
     let shift = Shift {
         words,
-        worker,
         turns,
         gate,
         count: words.system().count(),
-        most: most_hints(words.system().count(), robber.pool_count()),
+        most: most_hints(words.system().count(), worker.robber.pool_count()),
     };
-    let mut held = 0;
-    let mut taken = 0;
-    while taken < turns {
-        let before = taken;
-        taken = round(&shift, seat, own, &mut held, robber, taken);
-        if taken == before {
+    worker.held = 0;
+    worker.taken = 0;
+    'running: while worker.taken < turns {
+        let before = worker.taken;
+        worker.round(&shift);
+        if worker.taken == before {
             return WorkerEnd::Done;
         }
     }

@@ -1,16 +1,16 @@
 use Rattle.std.proofs.Common.{◌≡◌, ◌+◌, ◌*◌, ◌≤◌, length, count_ones, get_or, ap, ◌∙◌, arith}
 use Rattle.dep_graph.specs.Graph.{row_at, retaken}
 use Rattle.dep_graph.proofs.Cost.{cost_below, cost_more, cost_whole, edges_more, edges_within, retaken-le}
-use Rattle.dep_graph.proofs.bound.budget.Goals.{After-len}
+use Rattle.dep_graph.proofs.bound.budget.Goals.{After-of}
 use Rattle.dep_graph.proofs.bound.budget.Goals as goal
 
 -- what this position adds, and a bound on it
-cost_is : (c : After-len) → count_ones c.mask.result * c.len.result ≡ retaken (get_or c.args.s.now.masks c.loop-p.p 0) (row_at c.args.g.now c.loop-p.p)
+cost_is : (c : After-of) → count_ones c.mask.result * length c.of.result.now ≡ retaken (get_or c.args.s.now.masks c.loop-p.p 0) (row_at c.args.g.now c.loop-p.p)
 cost_is c =
-    ap (λ mask. count_ones mask * c.len.result) c.mask.ensures.mask ∙
-    ap (λ n. count_ones (get_or c.args.s.now.masks c.loop-p.p 0) * n) (c.len.ensures ∙ ap length c.of.ensures)
+    ap (λ mask. count_ones mask * length c.of.result.now) c.mask.ensures.mask ∙
+    ap (λ n. count_ones (get_or c.args.s.now.masks c.loop-p.p 0) * n) (ap length c.of.ensures)
 
-cost_le : (c : After-len) → retaken (get_or c.args.s.now.masks c.loop-p.p 0) (row_at c.args.g.now c.loop-p.p) ≤ 64 * length (row_at c.args.g.now c.loop-p.p).dependents
+cost_le : (c : After-of) → retaken (get_or c.args.s.now.masks c.loop-p.p 0) (row_at c.args.g.now c.loop-p.p) ≤ 64 * length (row_at c.args.g.now c.loop-p.p).dependents
 cost_le c = retaken-le _ (row_at c.args.g.now c.loop-p.p) (omega (arith, c.mask.ensures.mask, c.mask.type_inv))
 
 pub overflow_mul-budget : goal.overflow_mul-budget

@@ -1,6 +1,6 @@
 use Rattle.std.proofs.Common.{ℕ, ◌<◌, ◌≤◌, List, length, All}
 use Rattle.rule_terms.specs.System.{System, IsSystem}
-use Rattle.dep_graph.specs.declared.graph.Row.{Row}
+use Rattle.dep_graph.specs.Row.{Row}
 use Rattle.dep_graph.specs.Graph.{IsGraphOf}
 use Rattle.fix_core.specs.declared.event.CoreEvent.{CoreEvent}
 use Rattle.fix_core.specs.Machine.{run_of, opening, IsEvent}

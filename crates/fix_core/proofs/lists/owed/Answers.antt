@@ -10,10 +10,10 @@ loop-j-preserved c =
     let ds : List PosId = (row_at c.args.g.now c.args.p.0).dependents in
     let reads : List ℕ = (row_at c.args.g.now c.args.p.0).reads in
     let j = c.loop-j.j in
-    let same : c.as_slice-dependents.result.now ≡ ds = c.as_slice-dependents.ensures ∙ c.of.ensures in
+    let same : c.of-dependents.result.now ≡ ds = c.of-dependents.ensures in
     let l : j < length ds = omega (arith, ap length same, c.loop-j-test.true) in
     let z : PosId = record { 0 = 0 } in
-    let d : PosId = get_or c.as_slice-dependents.result.now j z in
+    let d : PosId = get_or c.of-dependents.result.now j z in
     let at : get_or ds j z ≡ d = ap (λ xs. get_or xs j z) (sym same) in
     elim c.if-read_by-lost-ne0.branch [
       | then-read_by-lost-ne0+in_ok-push w ↦ w.list-is ∙ w.in_ok-push.ensures.ok ∙ ap (λ xs. xs ++ d ∷ []) c.loop-j.invariant ∙

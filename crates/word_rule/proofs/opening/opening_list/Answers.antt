@@ -1,3 +1,4 @@
+use Rattle.lattice_words.specs.declared.word.TheConstants.{DIRTY}
 use Rattle.fix_core.specs.Machine.{opening_words}
 use Rattle.std.proofs.Common.{◌≡◌, ◌+◌, ◌*◌, ◌%◌, ◌^◌, ◌<◌, ◌++◌, ◌∷◌, [], List, ℕ, length, take, bit_or, ap, refl, ◌∙◌, arith, mod-lt}
 use Rattle.word_rule.proofs.Beginning.{opening_more}
@@ -10,7 +11,7 @@ loop-p-preserved c =
     let workers = c.args.workers in
     let few : p % workers < 16 = (let l = mod-lt p c.requires.0 in let m = c.requires.1 in omega (arith, l, m)) in
     let inside : p < length c.args.s.now.masks = (let l = c.loop-p-test.true in let e = c.count-p-end.ensures.positions in omega (arith, l, e)) in
-    let bit : ℕ = 1 * 2 ^ (48 + p % workers) % 18446744073709551616 in
+    let bit : ℕ = 1 * 2 ^ (DIRTY + p % workers) % 18446744073709551616 in
     let masks : List ℕ = c.args.s.now.masks in
     let next : List ℕ = opening_words workers 0 (take p masks) ++ bit_or c.mask.result bit ∷ [] in
     let before : c.push.new.self.items ≡ next = c.in_ok-push.ensures.items ∙ ap (λ (xs : List ℕ). xs ++ bit_or c.mask.result bit ∷ []) c.loop-p.invariant in

@@ -3,7 +3,7 @@ use Rattle.rule_terms.specs.Names.{names_of, is_over}
 use Rattle.rule_terms.specs.Pool.{Has}
 use Rattle.rule_terms.specs.declared.term.NewTerm.TheOpen.{NewTerm-F as new}
 use Rattle.rule_terms.specs.declared.term.NewTerm.TheViews.{roll-NewTerm, the_lemmas}
-use Rattle.rule_terms.proofs.Putting.{has_stays, put_const, put_word, put_and, put_or, put_unless, put_shift, put_keep_align, put_spread, two_names, input_stays, over_and, over_or, over_unless, over_spread, names_and, names_or}
+use Rattle.rule_terms.proofs.Putting.{goes_on_trans, goes_on_twice, has_stays, put_const, put_word, put_and, put_or, put_unless, put_shift, put_keep_align, put_spread, two_names, input_stays, over_and, over_or, over_unless, over_spread, names_and, names_or}
 use Rattle.rule_terms.proofs.pool.Pool.+put.Goals as goal
 
 pub returns-in_ok-place-in-Const-clause-has : goal.returns-in_ok-place-in-Const-clause-has
@@ -86,3 +86,90 @@ returns-in_ok-place-in-Spread-clause-has t c =
     put_spread c.put-in-Spread.new.self c.push-in-Spread.new.self c.in_ok-place-in-Spread.place.0 c.in-Spread.bit c.in-Spread.to c.in_ok-of-in-Spread.of c.get-in-Spread.result.now c.args.term.now
     (over_spread (length c.args.self.now.marks.items) c.in-Spread.bit c.in-Spread.to c.get-in-Spread.result.now c.args.term.now is c.requires.over)
     c.in_ok-of-in-Spread.ensures.has (record { inputs = c.in_ok-place-in-Spread.ensures.inputs; slots = c.in_ok-place-in-Spread.ensures.pushed; last = c.in_ok-place-in-Spread.ensures.last }) is
+
+-- the pool goes on through every call
+
+pub returns-in_err-place-in-Word-clause-goes_on : goal.returns-in_err-place-in-Word-clause-goes_on
+returns-in_err-place-in-Word-clause-goes_on t c =
+    goes_on_trans c.args.self.now c.number_of.new.self c.push-in-Word.new.self
+    c.in_ok-input-in-Word.ensures.goes_on c.in_err-place-in-Word.ensures.goes_on
+
+pub returns-in_ok-place-in-Word-clause-goes_on : goal.returns-in_ok-place-in-Word-clause-goes_on
+returns-in_ok-place-in-Word-clause-goes_on t c =
+    goes_on_trans c.args.self.now c.number_of.new.self c.push-in-Word.new.self
+    c.in_ok-input-in-Word.ensures.goes_on c.in_ok-place-in-Word.ensures.goes_on
+
+pub returns-in_err-right-in-And-clause-goes_on : goal.returns-in_err-right-in-And-clause-goes_on
+returns-in_err-right-in-And-clause-goes_on t c =
+    goes_on_trans c.args.self.now c.put.new.self c.put-in-And.new.self
+    c.in_ok-left-in-And.ensures.goes_on c.in_err-right-in-And.ensures.goes_on
+
+pub returns-in_err-place-in-And-clause-goes_on : goal.returns-in_err-place-in-And-clause-goes_on
+returns-in_err-place-in-And-clause-goes_on t c =
+    goes_on_twice c.args.self.now c.put.new.self c.put-in-And.new.self c.push-in-And.new.self
+    c.in_ok-left-in-And.ensures.goes_on c.in_ok-right-in-And.ensures.goes_on c.in_err-place-in-And.ensures.goes_on
+
+pub returns-in_ok-place-in-And-clause-goes_on : goal.returns-in_ok-place-in-And-clause-goes_on
+returns-in_ok-place-in-And-clause-goes_on t c =
+    goes_on_twice c.args.self.now c.put.new.self c.put-in-And.new.self c.push-in-And.new.self
+    c.in_ok-left-in-And.ensures.goes_on c.in_ok-right-in-And.ensures.goes_on c.in_ok-place-in-And.ensures.goes_on
+
+pub returns-in_err-right-in-Or-clause-goes_on : goal.returns-in_err-right-in-Or-clause-goes_on
+returns-in_err-right-in-Or-clause-goes_on t c =
+    goes_on_trans c.args.self.now c.put-in-Or.new.self c.put-in-Or-2.new.self
+    c.in_ok-left-in-Or.ensures.goes_on c.in_err-right-in-Or.ensures.goes_on
+
+pub returns-in_err-place-in-Or-clause-goes_on : goal.returns-in_err-place-in-Or-clause-goes_on
+returns-in_err-place-in-Or-clause-goes_on t c =
+    goes_on_twice c.args.self.now c.put-in-Or.new.self c.put-in-Or-2.new.self c.push-in-Or.new.self
+    c.in_ok-left-in-Or.ensures.goes_on c.in_ok-right-in-Or.ensures.goes_on c.in_err-place-in-Or.ensures.goes_on
+
+pub returns-in_ok-place-in-Or-clause-goes_on : goal.returns-in_ok-place-in-Or-clause-goes_on
+returns-in_ok-place-in-Or-clause-goes_on t c =
+    goes_on_twice c.args.self.now c.put-in-Or.new.self c.put-in-Or-2.new.self c.push-in-Or.new.self
+    c.in_ok-left-in-Or.ensures.goes_on c.in_ok-right-in-Or.ensures.goes_on c.in_ok-place-in-Or.ensures.goes_on
+
+pub returns-in_err-then-in-Unless-clause-goes_on : goal.returns-in_err-then-in-Unless-clause-goes_on
+returns-in_err-then-in-Unless-clause-goes_on t c =
+    goes_on_trans c.args.self.now c.number_of-in-Unless.new.self c.put-in-Unless.new.self
+    c.in_ok-input-in-Unless.ensures.goes_on c.in_err-then-in-Unless.ensures.goes_on
+
+pub returns-in_err-place-in-Unless-clause-goes_on : goal.returns-in_err-place-in-Unless-clause-goes_on
+returns-in_err-place-in-Unless-clause-goes_on t c =
+    goes_on_twice c.args.self.now c.number_of-in-Unless.new.self c.put-in-Unless.new.self c.push-in-Unless.new.self
+    c.in_ok-input-in-Unless.ensures.goes_on c.in_ok-then-in-Unless.ensures.goes_on c.in_err-place-in-Unless.ensures.goes_on
+
+pub returns-in_ok-place-in-Unless-clause-goes_on : goal.returns-in_ok-place-in-Unless-clause-goes_on
+returns-in_ok-place-in-Unless-clause-goes_on t c =
+    goes_on_twice c.args.self.now c.number_of-in-Unless.new.self c.put-in-Unless.new.self c.push-in-Unless.new.self
+    c.in_ok-input-in-Unless.ensures.goes_on c.in_ok-then-in-Unless.ensures.goes_on c.in_ok-place-in-Unless.ensures.goes_on
+
+pub returns-in_err-place-in-Shift-clause-goes_on : goal.returns-in_err-place-in-Shift-clause-goes_on
+returns-in_err-place-in-Shift-clause-goes_on t c =
+    goes_on_trans c.args.self.now c.put-in-Shift.new.self c.push-in-Shift.new.self
+    c.in_ok-of-in-Shift.ensures.goes_on c.in_err-place-in-Shift.ensures.goes_on
+
+pub returns-in_ok-place-in-Shift-clause-goes_on : goal.returns-in_ok-place-in-Shift-clause-goes_on
+returns-in_ok-place-in-Shift-clause-goes_on t c =
+    goes_on_trans c.args.self.now c.put-in-Shift.new.self c.push-in-Shift.new.self
+    c.in_ok-of-in-Shift.ensures.goes_on c.in_ok-place-in-Shift.ensures.goes_on
+
+pub returns-in_err-place-in-KeepAlign-clause-goes_on : goal.returns-in_err-place-in-KeepAlign-clause-goes_on
+returns-in_err-place-in-KeepAlign-clause-goes_on t c =
+    goes_on_trans c.args.self.now c.put-in-KeepAlign.new.self c.push-in-KeepAlign.new.self
+    c.in_ok-of-in-KeepAlign.ensures.goes_on c.in_err-place-in-KeepAlign.ensures.goes_on
+
+pub returns-in_ok-place-in-KeepAlign-clause-goes_on : goal.returns-in_ok-place-in-KeepAlign-clause-goes_on
+returns-in_ok-place-in-KeepAlign-clause-goes_on t c =
+    goes_on_trans c.args.self.now c.put-in-KeepAlign.new.self c.push-in-KeepAlign.new.self
+    c.in_ok-of-in-KeepAlign.ensures.goes_on c.in_ok-place-in-KeepAlign.ensures.goes_on
+
+pub returns-in_err-place-in-Spread-clause-goes_on : goal.returns-in_err-place-in-Spread-clause-goes_on
+returns-in_err-place-in-Spread-clause-goes_on t c =
+    goes_on_trans c.args.self.now c.put-in-Spread.new.self c.push-in-Spread.new.self
+    c.in_ok-of-in-Spread.ensures.goes_on c.in_err-place-in-Spread.ensures.goes_on
+
+pub returns-in_ok-place-in-Spread-clause-goes_on : goal.returns-in_ok-place-in-Spread-clause-goes_on
+returns-in_ok-place-in-Spread-clause-goes_on t c =
+    goes_on_trans c.args.self.now c.put-in-Spread.new.self c.push-in-Spread.new.self
+    c.in_ok-of-in-Spread.ensures.goes_on c.in_ok-place-in-Spread.ensures.goes_on

@@ -2,8 +2,9 @@ use Rattle.std.proofs.Common.{◌≡◌, ℕ, ◌-◌, ◌^◌, ◌<◌, ◌≤�
 use Rattle.std.specs.Prelude.{vec_capacity}
 use Rattle.atomic_table.specs.Table.{Allows}
 use Rattle.attr_ids.specs.declared.ids.PosId.{PosId}
+use Rattle.lattice_words.specs.declared.word.TheConstants.{FACT_BITS}
 use Rattle.rule_terms.specs.System.{System, value_at}
-use Rattle.dep_graph.specs.declared.graph.Row.{Row}
+use Rattle.dep_graph.specs.Row.{Row}
 use Rattle.dep_graph.specs.Graph.{row_at}
 use Rattle.fix_core.specs.Machine.{lost_by, owed_by, values_of}
 use Rattle.word_rule.specs.declared.view.Key.{Key}
@@ -30,7 +31,7 @@ fetch_and-word-requires c =
     let value = c.requires.value ∙ ap (λ (s : System). value_at s (opened me.0.core.mode).0 (values_of (looked_in me.0.core.mode))) (sym system) in (
       c.requires.of.0,
       (let sized = words.sized in omega (arith, sized, here)),
-      subst (λ (q : PosId). Allows (IsRuled k) words.table.shared.table_id.slots seat.seat.id me q.0 (λ n. bit_and n (bit_or c.args.new (2 ^ 64 - 2 ^ 47))) (λ n after. Cuts me n after)) (sym at)
+      subst (λ (q : PosId). Allows (IsRuled k) words.table.shared.table_id.slots seat.seat.id me q.0 (λ n. bit_and n (bit_or c.args.new (2 ^ 64 - 2 ^ FACT_BITS))) (λ n after. Cuts me n after)) (sym at)
           (cuts k words.table.shared.table_id.slots seat.seat.id me c.args.new c.requires.of.1 c.requires.open inside c.requires.all value),
     )
 

@@ -3,7 +3,7 @@ use Rattle.std.proofs.lemmas.List.{length_push}
 use Rattle.fix_core.proofs.Opening.{opening_long}
 use Rattle.atomic_table.specs.Table.{opening}
 use Rattle.rule_terms.specs.System.{System, IsSystem}
-use Rattle.dep_graph.specs.declared.graph.Row.{Row}
+use Rattle.dep_graph.specs.Row.{Row}
 use Rattle.dep_graph.specs.Graph.{IsGraphOf}
 use Rattle.fix_core.specs.Machine.{opening_words}
 use Rattle.word_rule.specs.declared.view.Key.{Key}

@@ -1,0 +1,2 @@
+pub mod Teaming
+pub mod Trying

@@ -1,0 +1,190 @@
+//! Workers over a system.
+ghost use Rattle.std.specs.Prelude.{◌≡◌, ◌<◌, ◌≤◌, false, length, All, IfOk};
+ghost use Rattle.dep_graph.specs.Graph.{IsGraphOf};
+ghost use Rattle.word_rule.specs.Belongs.{system_in, workers_in};
+ghost use Rattle.workers.specs.Workers.{count_in, IsReady, IsPoolOf, IsWorkerOf};
+ghost use Rattle.steal_pool.specs.Pools.{IsRobberOf};
+
+use crate::desk::Desk;
+use crate::numbers::{at, place, put_all, small};
+use anyhow::{Result, bail};
+use attr_ids::{PosId, WorkerEnd};
+use attr_io::Gate;
+use dep_graph::{DepGraph, dependents};
+use rule_terms::System;
+use std::alloc::Global;
+use std::thread::Threads;
+use steal_pool::{OwnPool, OwnPools, Robbers, pools};
+use word_rule::{LatticeWords, WorkerSeats};
+use workers::{Worker, run_all, run_worker};
+
+/// A gate that holds nobody back.
+struct Still;
+
+impl Gate for Still {
+    fn at_turn(&self, _worker: u8, _turn: u64) {}
+}
+
+/// 0 for a worker that is done, 1 for one that is spent.
+fn code(end: WorkerEnd) -> u64 {
+    match end {
+        WorkerEnd::Done => 0,
+        WorkerEnd::Spent => 1,
+    }
+}
+
+/// Answers the position of each hint that the pool still has, of at most three.
+fn put_hints(out: &mut Vec<u64>, own: &mut OwnPool) -> Result<()> {
+    for _ in 0..3 {
+        let Some(p) = own.draw() else {
+            return Ok(());
+        };
+        out.push(u64::from(p.0))?;
+    }
+    Ok(())
+}
+
+/// One worker for each seat, by their numbers.
+fn team(
+    alloc: Global,
+    words: &LatticeWords,
+    seats: WorkerSeats,
+    pools: OwnPools,
+    robbers: Robbers,
+) -> Result<Vec<Worker>>
+    requires seats { (length seats ≤ 16) × All (IsReady words.now) seats }
+    requires pools { (length pools ≡ length seats) × All (IsPoolOf (count_in words.now)) pools }
+    requires robbers { (length robbers ≡ length seats) × All (IsRobberOf (workers_in words.now) (count_in words.now)) robbers }
+    ensures many { IfOk result (λ made. length made.items ≡ length seats) }
+    ensures ready { IfOk result (λ made. All (IsWorkerOf words.now) made.items) }
+{
+    let count = seats.len();
+    let mut seats = seats.into_vec();
+    let mut pools = pools.into_vec();
+    let mut robbers = robbers.into_vec();
+    let mut made = Vec::new(alloc);
+    for number in 0..count {
+        made.push(Worker::new(
+            number as u8,
+            seats.remove(0),
+            pools.remove(0),
+            robbers.remove(0),
+        ))?;
+    }
+    Ok(made)
+}
+
+/// The words of a system, and its workers before they run.
+fn opened<'s>(
+    alloc: Global,
+    s: &'s System,
+    g: &'s DepGraph,
+    workers: u8,
+) -> Result<(LatticeWords<'s>, Vec<Worker>)>
+    requires graph { IsGraphOf s.now g.now }
+    requires workers { (0 < workers) × (workers ≤ 16) }
+    ensures system { IfOk result (λ made. system_in made.0 ≡ s.now) }
+    ensures many { IfOk result (λ made. length made.1.items ≡ workers) }
+    ensures ready { IfOk result (λ made. All (IsWorkerOf made.0) made.1.items) }
+{
+    let (words, seats) = LatticeWords::open(alloc, s, g, workers)?;
+    let (pools, robbers) = pools(alloc, workers, s.count())?;
+    let made = team(alloc, &words, seats, pools, robbers)?;
+    Ok((words, made))
+}
+
+/// Gives the worker's own pool a hint, if it names a position.
+fn give(words: &LatticeWords, worker: &mut Worker, p: PosId)
+    requires { IsWorkerOf words.now worker.old }
+    ensures { IsWorkerOf words.now worker.new }
+{
+    if p.0 < words.system().count() {
+        worker.own.give(p);
+    }
+}
+
+/// Runs the worker for so many turns, and answers how it ended.
+fn run_one(words: &LatticeWords, worker: &mut Worker, turns: u64) -> u64
+    requires { IsWorkerOf words.now worker.old }
+    ensures { IsWorkerOf words.now worker.new }
+{
+    code(run_worker(words, worker, turns, &Still))
+}
+
+/// Gives the only worker these hints, and runs it for so many turns. Answers how it ended, and the hints that its pool
+/// has then.
+fn alone(alloc: Global, out: &mut Vec<u64>, s: &System, n: &[u64]) -> Result<()> {
+    let graph = dependents(alloc, s)?;
+    let (words, mut team) = opened(alloc, s, &graph, 1)?;
+    let mut worker = team.remove(0);
+    give(&words, &mut worker, place(n, 1));
+    give(&words, &mut worker, place(n, 2));
+    out.push(run_one(&words, &mut worker, at(n, 0)))?;
+    put_hints(out, &mut worker.own)
+}
+
+/// Whether a dirty bit of the word is set, which ends the worker.
+fn finds_dirty(words: &LatticeWords, worker: &mut Worker, p: PosId) -> bool
+    requires { IsWorkerOf words.now worker.old }
+    ensures { result ≡ false → IsWorkerOf words.now worker.new }
+{
+    p.0 < words.system().count() && words.take(&mut worker.seat, p).is_some()
+}
+
+/// Gives the first of two workers two hints, and runs the second one for so many turns. Answers how it ended, and
+/// whether the first finds the words of the hints, and then of another position, dirty.
+fn other(alloc: Global, out: &mut Vec<u64>, s: &System, n: &[u64]) -> Result<()> {
+    let graph = dependents(alloc, s)?;
+    let (words, mut team) = opened(alloc, s, &graph, 2)?;
+    let mut first = team.remove(0);
+    let mut second = team.remove(0);
+    give(&words, &mut first, place(n, 1));
+    give(&words, &mut first, place(n, 2));
+    out.push(run_one(&words, &mut second, at(n, 0)))?;
+    let is_left = finds_dirty(&words, &mut first, place(n, 1))
+        || finds_dirty(&words, &mut first, place(n, 2));
+    out.push(u64::from(is_left))?;
+    if !is_left {
+        out.push(u64::from(finds_dirty(&words, &mut first, place(n, 3))))?;
+    }
+    Ok(())
+}
+
+/// Runs all of so many workers, each for so many turns. Answers the words that they leave, and how each ended.
+fn all<R: Threads + Sync>(
+    rt: &R,
+    alloc: Global,
+    out: &mut Vec<u64>,
+    s: &System,
+    n: &[u64],
+) -> Result<()> {
+    let workers = small(n, 0);
+    if workers == 0 || workers > 16 {
+        bail!("not 1 to 16 workers");
+    }
+    let graph = dependents(alloc, s)?;
+    let ran = run_all(rt, alloc, s, &graph, workers as u8, at(n, 1), &Still)?;
+    put_all(out, ran.words.as_slice())?;
+    for end in ran.ends.as_slice() {
+        out.push(code(*end))?;
+    }
+    Ok(())
+}
+
+/// Answers a call of workers, if it is one.
+pub(crate) fn answer<R: Threads + Sync>(
+    rt: &R,
+    alloc: Global,
+    desk: &mut Desk,
+    call: &str,
+    n: &[u64],
+    out: &mut Vec<u64>,
+) -> Result<bool> {
+    match call {
+        "run_one" => alone(alloc, out, &desk.system, n)?,
+        "run_other" => other(alloc, out, &desk.system, n)?,
+        "run_all" => all(rt, alloc, out, &desk.system, n)?,
+        _ => return Ok(false),
+    }
+    Ok(true)
+}
