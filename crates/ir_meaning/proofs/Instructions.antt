@@ -1,16 +1,15 @@
 -- Instructions by what they do, so that a law has a case for each kind and not one for each instruction.
 use Rattle.std.proofs.Common.{◌≡◌, ℕ, ◌==◌, Bool, true, false, if◌then◌else◌, List, drop, slice_get, Option, None, Some, refl}
 use Rattle.attr_ids.specs.declared.ids.BlockId.{BlockId}
+use Rattle.ir_module.specs.declared.op.Call.{Call}
 use Rattle.ir_module.specs.declared.op.Op.{Op}
 use Rattle.ir_module.specs.declared.op.Op.TheVariants as op
-use Rattle.ir_module.specs.declared.op.FuncType.{FuncType}
 use Rattle.ir_module.specs.declared.op.Written.{Written}
-use Rattle.ir_module.specs.declared.words.CallWords.{CallWords}
-use Rattle.ir_module.specs.declared.words.CallPlaces.{CallPlaces}
 use Rattle.ir_module.specs.declared.edge.Edge.{Edge}
 use Rattle.ir_module.specs.declared.edge.Way.TheVariants as way
 use Rattle.ir_module.specs.declared.module.Module.{Module}
-use Rattle.ir_module.specs.Places.{Spot, start_of}
+use Rattle.ir_module.specs.declared.module.Spot.{Spot}
+use Rattle.ir_module.specs.Places.{start_of}
 use Rattle.ir_module.specs.Edges.{edge, edges, catches_all}
 use Rattle.ir_module.specs.Calls.{is_call, inner_callee}
 use Rattle.ir_meaning.specs.Frames.{Begun, Frame, Body, State}
@@ -18,12 +17,11 @@ use Rattle.ir_meaning.specs.Machine.{Out, Undefined, Ended, pick, calls, returns
 
 -- ---- a call is a `call` or an `invoke`
 pub each_call : (Q : Op → Type 0) →
-    ((func_ty : FuncType) (callee : Written) (args : List Written) (words : CallWords) (places : CallPlaces) → Q (op.Call func_ty callee args words places)) →
-    ((func_ty : FuncType) (callee : Written) (args : List Written) (words : CallWords) (places : CallPlaces) (normal unwind : BlockId) →
-    Q (op.Invoke func_ty callee args words places normal unwind)) →
+    ((called : Call) → Q (op.Call called)) →
+    ((called : Call) (normal unwind : BlockId) → Q (op.Invoke called normal unwind)) →
     (o : Op) → is_call o ≡ true → Q o
-each_call Q call invoke (op.Call func_ty callee args words places) is = call func_ty callee args words places
-each_call Q call invoke (op.Invoke func_ty callee args words places normal unwind) is = invoke func_ty callee args words places normal unwind
+each_call Q call invoke (op.Call called) is = call called
+each_call Q call invoke (op.Invoke called normal unwind) is = invoke called normal unwind
 each_call Q call invoke (op.Bin kind flagged a b) is = absurd (cc)
 each_call Q call invoke (op.Icmp pred flagged a b) is = absurd (cc)
 each_call Q call invoke (op.Cast kind flagged a) is = absurd (cc)
@@ -63,8 +61,8 @@ module _ (m : Module) (t : State) (picks : List ℕ) (call : Begun) (func : ℕ)
   evaluating o false each = each.undefined
 
   pub by_kind : (o : Op) → EachKind o → Q (does m t picks call func spot below o)
-  by_kind (op.Call func_ty callee args words places) each = each.calling refl
-  by_kind (op.Invoke func_ty callee args words places normal unwind) each = each.calling refl
+  by_kind (op.Call called) each = each.calling refl
+  by_kind (op.Invoke called normal unwind) each = each.calling refl
   by_kind (op.Resume val) each = each.unwinding val refl
   by_kind (op.Ret val) each = each.returning
   by_kind (op.Jump to) each = each.branching 0 (edge way.Jump to) refl
@@ -97,8 +95,8 @@ pub lands_by_edge : (m : Module) (picks : List ℕ) (block : ℕ) (o : Op) → i
     (e : Edge) × (slice_get (edges o) 1 ≡ Some e) × (e.to.0 ≡ block)
 lands_by_edge m picks block =
     each_call (λ o. landing_by m picks o ≡ Lands block → (e : Edge) × (slice_get (edges o) 1 ≡ Some e) × (e.to.0 ≡ block))
-    (λ func_ty callee args words places e. absurd (cc))
-    (λ func_ty callee args words places normal unwind e. (edge way.Unwind unwind, refl, chosen (catches_all m unwind.0) picks unwind.0 block e))
+    (λ called e. absurd (cc))
+    (λ called normal unwind e. (edge way.Unwind unwind, refl, chosen (catches_all m unwind.0) picks unwind.0 block e))
 
 -- a block that catches all lets nothing through
 pub lets_through : (b : Bool) (picks rest : List ℕ) (i : ℕ) → lands_or b picks i ≡ Passes rest → b ≡ false

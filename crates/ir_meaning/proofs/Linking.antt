@@ -1,5 +1,6 @@
 -- The frames of every run are linked: a lemma for each way in which a stack changes.
-use Rattle.std.proofs.Common.{◌≡◌, ℕ, zero, suc, ◌+◌, ◌<◌, ◌≤◌, Bool, true, false, if◌then◌else◌, not, ◌==◌, ◌&&◌, ◌||◌, List, [], ◌∷◌, slice_get, length, Option, None, Some, refl, sym, ap, subst, ◌∙◌, arith, map}
+use Rattle.std.proofs.Common.{◌≡◌, ℕ, zero, suc, ◌+◌, ◌<◌, ◌≤◌, Bool, true, false, if◌then◌else◌, not, ◌==◌, ◌&&◌, ◌||◌, List, [], ◌∷◌, slice_get}
+use Rattle.std.proofs.Common.{length, Option, None, Some, refl, sym, ap, subst, ◌∙◌, arith, map}
 use Rattle.std.specs.List.{AllByRecursion}
 use Rattle.std.specs.Option.{option_and_then}
 use Rattle.attr_ids.specs.declared.ids.FuncId.{FuncId}
@@ -12,16 +13,21 @@ use Rattle.ir_module.specs.declared.module.Seg.{Seg}
 use Rattle.ir_module.specs.declared.module.Block.{Block}
 use Rattle.ir_module.specs.declared.module.Func.{Func}
 use Rattle.ir_module.specs.declared.module.Module.{Module}
-use Rattle.ir_module.specs.Places.{Spot, instr_at, IsIn, start_of, entry_of, behind_call, first_block_in}
+use Rattle.ir_module.specs.declared.module.Spot.{Spot}
+use Rattle.ir_module.specs.Places.{spot, instr_at, IsIn, start_of, entry_of, behind_call, first_block_in}
 use Rattle.ir_module.specs.Edges.{edge, edges}
-use Rattle.ir_module.specs.Calls.{is_call, callee_in, inner_callee, direct_callee, is_exact_in, is_replaceable, is_open, is_open_in, is_taken, is_visible, has_blocks}
-use Rattle.ir_module.specs.Formed.{IsWellFormed, IsBlockIn, IsPlaced as IsPlacedOp}
+use Rattle.ir_module.specs.Calls.{is_call, callee_in, inner_callee, direct_callee, is_exact_in, is_replaceable, is_open, is_open_in, is_taken}
+use Rattle.ir_module.specs.Calls.{is_visible, has_blocks}
+use Rattle.ir_module.specs.Formed.{IsBlockIn, IsPlaced as IsPlacedOp}
+use Rattle.ir_module.specs.WellFormed.{IsWellFormed}
 use Rattle.ir_module.proofs.Spots.{IsFormedAt, formed_at}
 use Rattle.ir_meaning.specs.declared.choice.Act.{Act}
 use Rattle.ir_meaning.specs.declared.choice.Act.TheVariants as act
 use Rattle.ir_meaning.specs.declared.choice.Choice.{Choice}
 use Rattle.ir_meaning.specs.Frames.{Made, Entered, At, Begun, active, Frame, Body, Outside, State, Event}
-use Rattle.ir_meaning.specs.Machine.{step, step_of, acts, body_step, does, returned_to, after_return, gone_on, Landing, Lands, Passes, landing_in, landing, left_at, left_by, events_at, unwinds_of, begun, enters, calls_outside, calls, returns, unwinds, moves, behind, Ended}
+use Rattle.ir_meaning.specs.Machine.{step, step_of, acts, body_step, does, returned_to, after_return, gone_on, Landing, Lands, Passes, landing_in}
+use Rattle.ir_meaning.specs.Machine.{landing, left_at, left_by, events_at, unwinds_of, begun, enters, calls_outside, calls, returns, unwinds, moves}
+use Rattle.ir_meaning.specs.Machine.{behind, Ended}
 use Rattle.ir_meaning.specs.Runs.{Done, run, events_of, IsOpening}
 use Rattle.ir_meaning.specs.Links.{CallsBodyIn, BeginsAs, RunsItsCallee, IsMadeBy, IsPlaced, AreLinked, IsLinked}
 use Rattle.ir_meaning.proofs.Instructions.{each_call, by_kind, lands_by_edge}
@@ -29,15 +35,16 @@ use Rattle.ir_meaning.proofs.Runs.{Keeps, run_law, always, mapped, of_events}
 
 -- ---- where a body begins
 spot_in : (m : Module) (f k i at : ℕ) (seg : Seg) (b : Block) → slice_get m.segs k ≡ Some seg → seg.block.0 ≡ i → slice_get m.blocks i ≡ Some b → b.func.0 ≡ f →
-    IsIn m f (record { seg = k; at = at })
+    IsIn m f (spot k at)
 spot_in m f k i at seg b at_seg at_i at_block in_func =
     record { seg = seg; block = b; at_seg = at_seg; at_block = subst (λ j. slice_get m.blocks j ≡ Some b) (sym at_i) at_block; in_func = in_func }
 
 -- a block of a function begins in it
 starts_in : (m : Module) (f i : ℕ) → IsWellFormed m → IsBlockIn m f i → IsIn m f (start_of m i)
 starts_in m f i formed (b, at, of) =
-    let filled = formed.filled i b at in
-    let seg = formed.segs i b.first_seg b at (omega arith, omega arith) in
+    let block = formed.blocks i b at in
+    let filled : 0 < b.seg_count = block.filled in
+    let seg = block.segs b.first_seg (omega arith, omega arith) in
     rw at (spot_in m f b.first_seg i 0 seg.0 b seg.1 seg.2 at of)
 
 begins_in : (m : Module) (f : ℕ) (found : Option Func) → IsWellFormed m → slice_get m.funcs f ≡ found → has_blocks found ≡ true →
@@ -45,7 +52,7 @@ begins_in : (m : Module) (f : ℕ) (found : Option Func) → IsWellFormed m → 
 begins_in m f None formed is body = absurd (cc)
 begins_in m f (Some func) formed is body =
     let some : 0 < func.block_count = positive func.block_count body in
-    starts_in m f func.first_block formed (formed.blocks f func.first_block func is (omega arith, omega arith))
+    starts_in m f func.first_block formed ((formed.funcs f func is).blocks func.first_block (omega arith, omega arith))
   where
     positive : (n : ℕ) → not (n == 0) ≡ true → 0 < n
     positive zero h = absurd (cc)
@@ -87,8 +94,8 @@ inner_is_exact m o f e = inner_by m f (direct_callee m o) e
 -- ---- where a body goes on
 home : (m : Module) (f : ℕ) (s : Spot) (instr : Instr) → (is : IsIn m f s) → (at : IsFormedAt m s instr) → at.block.func.0 ≡ f
 home m f s instr is at =
-    let seg : slice_get m.segs s.seg ≡ Some is.seg = is.at_seg in
-    let seg' : slice_get m.segs s.seg ≡ Some at.stands.seg = at.stands.at_seg in
+    let seg : slice_get m.segs s.seg.0 ≡ Some is.seg = is.at_seg in
+    let seg' : slice_get m.segs s.seg.0 ≡ Some at.stands.seg = at.stands.at_seg in
     let block : slice_get m.blocks is.seg.block.0 ≡ Some is.block = is.at_block in
     let block' : slice_get m.blocks at.stands.seg.block.0 ≡ Some at.block = at.at_block in
     let of : is.block.func.0 ≡ f = is.in_func in
@@ -103,13 +110,13 @@ edge_leads_in m f s instr k e formed is at leads =
 
 -- behind a `call` the next segment of its block begins
 behind_in : (m : Module) (f : ℕ) (s : Spot) (instr : Instr) → IsWellFormed m → IsIn m f s → (at : IsFormedAt m s instr) →
-    s.seg + 1 < at.block.first_seg + at.block.seg_count → IsIn m f (behind_call s)
+    s.seg.0 + 1 < at.block.first_seg + at.block.seg_count → IsIn m f (behind_call s)
 behind_in m f s instr formed is at more =
-    let run = formed.places s.seg at.stands.seg at.stands.at_seg in
-    let same : run.0 ≡ at.block = some_is (sym run.1 ∙ at.at_block) in
-    let low : at.block.first_seg ≤ s.seg = subst (λ b. b.first_seg ≤ s.seg) same run.2.0 in
-    let seg = formed.segs at.stands.seg.block.0 (s.seg + 1) at.block at.at_block (omega arith, more) in
-    spot_in m f (s.seg + 1) at.stands.seg.block.0 0 seg.0 at.block seg.1 seg.2 at.at_block (home m f s instr is at)
+    let home_of = formed.segs s.seg.0 at.stands.seg at.stands.at_seg in
+    let same : home_of.0 ≡ at.block = some_is (sym home_of.1 ∙ at.at_block) in
+    let low : at.block.first_seg ≤ s.seg.0 = subst (λ b. b.first_seg ≤ s.seg.0) same home_of.2.place.0 in
+    let seg = (formed.blocks at.stands.seg.block.0 at.block at.at_block).segs (s.seg.0 + 1) (omega arith, more) in
+    spot_in m f (s.seg.0 + 1) at.stands.seg.block.0 0 seg.0 at.block seg.1 seg.2 at.at_block (home m f s instr is at)
   where
     some_is : {a b : Block} → Some a ≡ Some b → a ≡ b
     some_is e = cc
@@ -118,15 +125,15 @@ returned_in : (m : Module) (f : ℕ) (s : Spot) (instr : Instr) → IsWellFormed
     IsIn m f (returned_to m s instr.op)
 returned_in m f s instr formed is at called =
     each_call (λ o. instr.op ≡ o → IsIn m f (returned_to m s o))
-    (λ func_ty callee args words places o_is. behind_in m f s instr formed is place (ends (op.Call func_ty callee args words places) o_is).1)
-    (λ func_ty callee args words places normal unwind o_is.
+    (λ called o_is. behind_in m f s instr formed is place (ends (op.Call called) o_is).1)
+    (λ called normal unwind o_is.
     edge_leads_in m f s instr 0 (edge way.Normal normal) formed is at (ap (λ o. slice_get (edges o) 0) o_is)) instr.op called refl
   where
     place : IsFormedAt m s instr
     place = formed_at m s instr formed at
 
-    ends : (o : Op) → instr.op ≡ o → IsPlacedOp place.block s.seg (length place.stands.seg.instrs) s.at o
-    ends o is = subst (IsPlacedOp place.block s.seg (length place.stands.seg.instrs) s.at) is place.placed
+    ends : (o : Op) → instr.op ≡ o → IsPlacedOp place.block s.seg.0 (length place.stands.seg.instrs) s.at o
+    ends o is = subst (IsPlacedOp place.block s.seg.0 (length place.stands.seg.instrs) s.at) is place.placed
 
 pub goes_on_behind : (m : Module) (f : ℕ) (s : Spot) (body : Option ℕ) → IsWellFormed m → IsIn m f s → CallsBodyIn m body (instr_at m s) →
     IsIn m f (after_return m s (instr_at m s))
@@ -158,7 +165,8 @@ run_their_callees m top [] h = (h.0.0, tt)
 run_their_callees m top (under ∷ below) h = (h.0.0, run_their_callees m under below h.2)
 
 -- a module frame may stand at another spot of its function
-moved : (m : Module) (call : Begun) (func : ℕ) (s s' : Spot) (below : List Frame) → IsIn m func s' → AreLinked m (Body call func s) below → AreLinked m (Body call func s') below
+moved : (m : Module) (call : Begun) (func : ℕ) (s s' : Spot) (below : List Frame) → IsIn m func s' → AreLinked m (Body call func s) below →
+    AreLinked m (Body call func s') below
 moved m call func s s' [] is h = ((h.0.0, is), h.1)
 moved m call func s s' (Body c f at ∷ below) is h = ((h.0.0, is), h.1, h.2)
 moved m call func s s' (Outside c ∷ below) is h = ((h.0.0, is), h.1, h.2)
@@ -211,7 +219,8 @@ module _ (m : Module) (formed : IsWellFormed m) where
   Was d = IsLinked m d.before.stack × AllByRecursion Run d.events
 
   -- the events of an unwinding name calls that stand
-  events_at_run : (l : Landing) (through : List ℕ → List Event) → ((picks : List ℕ) → AllByRecursion Run (through picks)) → AllByRecursion Run (events_at l through)
+  events_at_run : (l : Landing) (through : List ℕ → List Event) → ((picks : List ℕ) → AllByRecursion Run (through picks)) →
+      AllByRecursion Run (events_at l through)
   events_at_run (Lands block) through rest = tt
   events_at_run (Passes picks) through rest = rest picks
 
@@ -225,18 +234,20 @@ module _ (m : Module) (formed : IsWellFormed m) where
 
   -- a call of a body
   entering : (t : State) (made : Made) (f : ℕ) (top : Frame) (below : List Frame) → t.stack ≡ top ∷ below → AreLinked m top below →
-      has_blocks (slice_get m.funcs f) ≡ true → BeginsAs m (Some f) made → IsMadeBy (Body (begun t made) f (entry_of m f)) top → Keeps Inv Free Was t (enters m t made f)
+      has_blocks (slice_get m.funcs f) ≡ true → BeginsAs m (Some f) made → IsMadeBy (Body (begun t made) f (entry_of m f)) top →
+      Keeps Inv Free Was t (enters m t made f)
   entering t made f top below stack linked body begins on =
       let frame = Body (begun t made) f (entry_of m f) in
       let grown : AreLinked m frame t.stack = subst (AreLinked m frame) (sym stack) ((begins, body_begins m f formed body), on, linked) in
       λ _. (grown, (subst (IsLinked m) (sym stack) linked, (run_their_callees m frame t.stack grown, tt)))
 
-  outside_called : (t : State) (s : Spot) (call : Begun) (func : ℕ) (below : List Frame) → t.stack ≡ Body call func s ∷ below → AreLinked m (Body call func s) below →
-      BeginsAs m None (At s) → Keeps Inv Free Was t (calls_outside t (At s))
+  outside_called : (t : State) (s : Spot) (call : Begun) (func : ℕ) (below : List Frame) → t.stack ≡ Body call func s ∷ below →
+      AreLinked m (Body call func s) below → BeginsAs m None (At s) → Keeps Inv Free Was t (calls_outside t (At s))
   outside_called t s call func below stack linked begins =
       λ _. (subst (AreLinked m (Outside (begun t (At s)))) (sym stack) ((begins, tt), refl, linked), (subst (IsLinked m) (sym stack) linked, tt))
 
-  returning : (t : State) (top : Frame) (below : List Frame) → t.stack ≡ top ∷ below → AreLinked m top below → (below ≡ [] → ⊥) → Keeps Inv Free Was t (returns m t top below)
+  returning : (t : State) (top : Frame) (below : List Frame) → t.stack ≡ top ∷ below → AreLinked m top below → (below ≡ [] → ⊥) →
+      Keeps Inv Free Was t (returns m t top below)
   returning t top below stack linked some =
       λ _. (gone_on_linked m top below formed linked some, (subst (IsLinked m) (sym stack) linked, (run_their_callees m top below linked, tt)))
 
@@ -245,8 +256,8 @@ module _ (m : Module) (formed : IsWellFormed m) where
   unwinding t picks top below stack linked some =
       λ _. (left_linked m picks top below formed linked some, (subst (IsLinked m) (sym stack) linked, unwinds_run picks top below linked))
 
-  moving : (t : State) (call : Begun) (func : ℕ) (s s' : Spot) (below : List Frame) → t.stack ≡ Body call func s ∷ below → AreLinked m (Body call func s) below →
-      IsIn m func s' → Keeps Inv Free Was t (moves t call func s' below)
+  moving : (t : State) (call : Begun) (func : ℕ) (s s' : Spot) (below : List Frame) → t.stack ≡ Body call func s ∷ below →
+      AreLinked m (Body call func s) below → IsIn m func s' → Keeps Inv Free Was t (moves t call func s' below)
   moving t call func s s' below stack linked is = λ _. (moved m call func s s' below is linked, (subst (IsLinked m) (sym stack) linked, tt))
 
   acting : (t : State) (picks : List ℕ) (call : Begun) (below : List Frame) (a : Act) → t.stack ≡ Outside call ∷ below → AreLinked m (Outside call) below →
@@ -267,7 +278,8 @@ module _ (m : Module) (formed : IsWellFormed m) where
   calling t call func s below instr (Some f) e at is stack linked =
       entering t (At s) f (Body call func s) below stack linked (exact_has_blocks (slice_get m.funcs f) (inner_is_exact m instr.op f e))
       (subst (CallsBodyIn m (Some f)) (sym at) (is, sym e)) refl
-  calling t call func s below instr None e at is stack linked = outside_called t s call func below stack linked (subst (CallsBodyIn m None) (sym at) (is, sym e))
+  calling t call func s below instr None e at is stack linked =
+      outside_called t s call func below stack linked (subst (CallsBodyIn m None) (sym at) (is, sym e))
 
   doing : (t : State) (picks : List ℕ) (call : Begun) (func : ℕ) (s : Spot) (below : List Frame) (instr : Instr) → instr_at m s ≡ Some instr →
       t.stack ≡ Body call func s ∷ below → AreLinked m (Body call func s) below → Keeps Inv Free Was t (does m t picks call func s below instr.op)
@@ -315,4 +327,5 @@ module _ (m : Module) (formed : IsWellFormed m) where
 
   pub all_run : (opening : State) → IsOpening opening → (choices : List Choice) → AllByRecursion Run (events_of (run m opening choices))
   all_run opening is choices =
-      of_events Run (run m opening choices) (mapped Was (λ d. AllByRecursion Run d.events) (run m opening choices) (λ d was. was.1) (all_were opening is choices))
+      of_events Run (run m opening choices)
+      (mapped Was (λ d. AllByRecursion Run d.events) (run m opening choices) (λ d was. was.1) (all_were opening is choices))

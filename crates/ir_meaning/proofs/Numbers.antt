@@ -5,13 +5,15 @@ use Rattle.std.specs.List.{AllByRecursion}
 use Rattle.ir_module.specs.declared.op.Op.{Op}
 use Rattle.ir_module.specs.declared.op.Instr.{Instr}
 use Rattle.ir_module.specs.declared.module.Module.{Module}
-use Rattle.ir_module.specs.Places.{Spot, instr_at, start_of}
+use Rattle.ir_module.specs.declared.module.Spot.{Spot}
+use Rattle.ir_module.specs.Places.{instr_at, start_of}
 use Rattle.ir_module.specs.Calls.{inner_callee, is_open}
 use Rattle.ir_meaning.specs.declared.choice.Act.{Act}
 use Rattle.ir_meaning.specs.declared.choice.Act.TheVariants as act
 use Rattle.ir_meaning.specs.declared.choice.Choice.{Choice}
 use Rattle.ir_meaning.specs.Frames.{Made, Entered, At, Begun, active, Frame, Body, Outside, State}
-use Rattle.ir_meaning.specs.Machine.{Ended, step, step_of, acts, body_step, does, gone_on, Landing, Lands, Passes, landing, left_at, left_by, enters, calls_outside, calls, moves, behind}
+use Rattle.ir_meaning.specs.Machine.{Ended, step, step_of, acts, body_step, does, enters, calls_outside, calls, moves, behind}
+use Rattle.ir_meaning.specs.Machine.{gone_on, Landing, Lands, Passes, landing, left_at, left_by}
 use Rattle.ir_meaning.specs.Runs.{Done, run, IsOpening}
 use Rattle.ir_meaning.specs.Links.{AreNumbered}
 use Rattle.ir_meaning.proofs.Instructions.{by_kind}
@@ -97,8 +99,8 @@ module _ (m : Module) where
         ended = tt;
       })
 
-  standing : (t : State) (picks : List ℕ) (call : Begun) (func : ℕ) (s : Spot) (below : List Frame) (found : Option Instr) → t.stack ≡ Body call func s ∷ below →
-      Inv t → Keeps Inv Free Was t (body_step m t picks call func s below found)
+  standing : (t : State) (picks : List ℕ) (call : Begun) (func : ℕ) (s : Spot) (below : List Frame) (found : Option Instr) →
+      t.stack ≡ Body call func s ∷ below → Inv t → Keeps Inv Free Was t (body_step m t picks call func s below found)
   standing t picks call func s below None e inv = tt
   standing t picks call func s below (Some instr) e inv = doing t picks call func s below instr.op e inv
 

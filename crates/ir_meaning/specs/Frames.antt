@@ -1,6 +1,6 @@
 -- The states of the machine: frames of calls, one on another, and the events that a step makes.
 use Rattle.std.specs.Prelude.{ℕ, List, map, Option, None, Some}
-use Rattle.ir_module.specs.Places.{Spot}
+use Rattle.ir_module.specs.declared.module.Spot.{Spot}
 
 -- how a call begins: as the lowest frame of a run, where the outside enters an open body, or at a call instruction
 pub data Made : Type 0 where

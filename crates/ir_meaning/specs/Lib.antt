@@ -1,6 +1,7 @@
 pub use Rattle.ir_module.specs.Places
 pub use Rattle.ir_module.specs.Calls
 pub use Rattle.ir_module.specs.Formed
+pub use Rattle.ir_module.specs.WellFormed
 pub mod Frames
 pub mod Machine
 pub mod Runs

@@ -5,7 +5,8 @@ use Rattle.ir_module.specs.declared.op.Op.TheVariants as op
 use Rattle.ir_module.specs.declared.op.Instr.{Instr}
 use Rattle.ir_module.specs.declared.edge.Edge.{Edge}
 use Rattle.ir_module.specs.declared.module.Module.{Module}
-use Rattle.ir_module.specs.Places.{Spot, instr_at, start_of, entry_of, behind_call}
+use Rattle.ir_module.specs.declared.module.Spot.{Spot}
+use Rattle.ir_module.specs.Places.{instr_at, start_of, entry_of, behind_call}
 use Rattle.ir_module.specs.Edges.{edges, catches_all}
 use Rattle.ir_module.specs.Calls.{inner_callee, is_open}
 use Rattle.ir_meaning.specs.declared.choice.Act.{Act}
@@ -46,7 +47,7 @@ calls m t spot None = calls_outside t (At spot)
 
 -- where a body goes on after a return: behind a `call`, at the normal block of an `invoke`
 abbrev pub returned_to : Module → Spot → Op → Spot
-returned_to m spot (op.Invoke func_ty callee args words places normal unwind) = start_of m normal.0
+returned_to m spot (op.Invoke called normal unwind) = start_of m normal.0
 returned_to m spot _ = behind_call spot
 
 abbrev pub after_return : Module → Spot → Option Instr → Spot
@@ -76,7 +77,7 @@ lands_or false picks block = if pick picks == 0 then Lands block else Passes (dr
 
 -- a `call` lets an unwinding through, an `invoke` has a block for it
 abbrev pub landing_by : Module → List ℕ → Op → Landing
-landing_by m picks (op.Invoke func_ty callee args words places normal unwind) = lands_or (catches_all m unwind.0) picks unwind.0
+landing_by m picks (op.Invoke called normal unwind) = lands_or (catches_all m unwind.0) picks unwind.0
 landing_by m picks _ = Passes picks
 
 abbrev pub landing_in : Module → List ℕ → Option Instr → Landing
@@ -144,9 +145,8 @@ abbrev pub evaluates : State → List ℕ → Begun → ℕ → Spot → List Fr
 evaluates t picks call func spot below = if pick picks == 0 then moves t call func (behind spot) below else Undefined
 
 abbrev pub does : Module → State → List ℕ → Begun → ℕ → Spot → List Frame → Op → Out
-does m t picks call func spot below (op.Call func_ty callee args words places) = calls m t spot (inner_callee m (op.Call func_ty callee args words places))
-does m t picks call func spot below (op.Invoke func_ty callee args words places normal unwind) =
-    calls m t spot (inner_callee m (op.Invoke func_ty callee args words places normal unwind))
+does m t picks call func spot below (op.Call called) = calls m t spot (inner_callee m (op.Call called))
+does m t picks call func spot below (op.Invoke called normal unwind) = calls m t spot (inner_callee m (op.Invoke called normal unwind))
 does m t picks call func spot below (op.Resume val) = unwinds m t picks (Body call func spot) below
 does m t picks call func spot below (op.Ret val) = returns m t (Body call func spot) below
 does m t picks call func spot below (op.Jump to) = moves t call func (start_of m to.0) below

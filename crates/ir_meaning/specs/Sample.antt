@@ -2,6 +2,7 @@
 use Rattle.std.specs.Prelude.{ℕ, true, false, List, [], ◌∷◌, Option, None, Some}
 use Rattle.attr_ids.specs.declared.ids.ValueId.{ValueId}
 use Rattle.ir_types.specs.declared.ir_type.IrType.TheVariants as type
+use Rattle.ir_module.specs.declared.op.Call.{Call}
 use Rattle.ir_module.specs.declared.op.Op.{Op}
 use Rattle.ir_module.specs.declared.op.Op.TheVariants as op
 use Rattle.ir_module.specs.declared.op.Operand.{Operand}
@@ -9,46 +10,32 @@ use Rattle.ir_module.specs.declared.op.Operand.TheVariants as operand
 use Rattle.ir_module.specs.declared.op.Written.{Written}
 use Rattle.ir_module.specs.declared.op.FuncType.{FuncType}
 use Rattle.ir_module.specs.declared.op.Instr.{Instr}
-use Rattle.ir_module.specs.declared.words.FuncWords.{FuncWords}
-use Rattle.ir_module.specs.declared.words.ParamWords.{ParamWords}
-use Rattle.ir_module.specs.declared.words.CallWords.{CallWords}
-use Rattle.ir_module.specs.declared.words.CallPlaces.{CallPlaces}
+use Rattle.ir_module.specs.declared.attrs.FuncAttrs.{FuncAttrs}
+use Rattle.ir_module.specs.declared.attrs.CallAttrs.{CallAttrs}
+use Rattle.ir_module.specs.declared.attrs.CallPlaces.{CallPlaces}
 use Rattle.ir_module.specs.declared.module.Linkage.{Linkage}
 use Rattle.ir_module.specs.declared.module.Linkage.TheVariants as linkage
 use Rattle.ir_module.specs.declared.module.Def.TheVariants as def
 use Rattle.ir_module.specs.declared.module.Seg.{Seg}
 use Rattle.ir_module.specs.declared.module.Block.{Block}
 use Rattle.ir_module.specs.declared.module.Func.{Func}
+use Rattle.ir_module.specs.declared.module.ValueInfo.{ValueInfo}
 use Rattle.ir_module.specs.declared.module.Module.{Module}
+use Rattle.ir_module.specs.Places.{spot}
+use Rattle.ir_module.specs.Calls.{no_attrs}
 use Rattle.ir_meaning.specs.declared.choice.Act.TheVariants as act
 use Rattle.ir_meaning.specs.declared.choice.Choice.{Choice}
 use Rattle.ir_meaning.specs.Frames.{Lowest, Outside, State}
 
--- ---- words and types
-abbrev pub no_func_words : FuncWords
-no_func_words = record { nounwind = false; noreturn = false; nofree = false; norecurse = false; nocallback = false; memory = None }
+-- ---- attributes and types
+abbrev pub no_func_attrs : FuncAttrs
+no_func_attrs = record { nounwind = false; noreturn = false; nofree = false; norecurse = false; nocallback = false; memory = None }
 
-abbrev pub nounwind : FuncWords
+abbrev pub nounwind : FuncAttrs
 nounwind = record { nounwind = true; noreturn = false; nofree = false; norecurse = false; nocallback = false; memory = None }
 
-abbrev pub noreturn_nocallback : FuncWords
+abbrev pub noreturn_nocallback : FuncAttrs
 noreturn_nocallback = record { nounwind = false; noreturn = true; nofree = false; norecurse = false; nocallback = true; memory = None }
-
-abbrev pub no_words : ParamWords
-no_words = record {
-  nonnull = false;
-  nocapture = false;
-  captures = false;
-  readnone = false;
-  readonly = false;
-  writeonly = false;
-  returned = false;
-  sret = false;
-  writable = false;
-  align = 0;
-  dereferenceable = 0;
-  bad = false;
-}
 
 -- the types of the module: `void`, `ptr` and `i1`
 abbrev pub void : ℕ
@@ -70,17 +57,20 @@ the_function f = a_value pointer (operand.Func (record { 0 = f }))
 abbrev pub func_type : FuncType
 func_type = record { ret = record { 0 = void }; params = []; variadic = false }
 
-abbrev pub call_words : CallWords
-call_words = record { func = no_func_words; ret = no_words; args = [] }
+abbrev pub call_attrs : CallAttrs
+call_attrs = record { func = no_func_attrs; ret = no_attrs; args = [] }
 
 abbrev pub call_places : CallPlaces
 call_places = record { ret = 0; after = 0; args = [] }
 
+abbrev pub call_of_function : ℕ → Call
+call_of_function f = record { func_ty = func_type; callee = the_function f; args = []; attrs = call_attrs; places = call_places }
+
 abbrev pub a_call : ℕ → Op
-a_call f = op.Call func_type (the_function f) [] call_words call_places
+a_call f = op.Call (call_of_function f)
 
 abbrev pub an_invoke : ℕ → ℕ → ℕ → Op
-an_invoke f normal unwind = op.Invoke func_type (the_function f) [] call_words call_places (record { 0 = normal }) (record { 0 = unwind })
+an_invoke f normal unwind = op.Invoke (call_of_function f) (record { 0 = normal }) (record { 0 = unwind })
 
 abbrev pub a_cleanup : Op
 a_cleanup = op.LandingPad true []
@@ -105,22 +95,27 @@ an_end block o = a_segment block (an_instr None void o ∷ [])
 abbrev pub a_block : ℕ → ℕ → ℕ → Block
 a_block f first count = record { func = record { 0 = f }; name = []; first_seg = first; seg_count = count }
 
-abbrev pub a_function : Linkage → FuncWords → ℕ → ℕ → Func
-a_function link words first count = record {
+abbrev pub a_function : Linkage → FuncAttrs → ℕ → ℕ → Func
+a_function link attrs first count = record {
   name = [];
   linkage = link;
   ret = record { 0 = void };
-  ret_words = no_words;
+  ret_attrs = no_attrs;
   params = [];
   variadic = false;
-  words = words;
+  attrs = attrs;
   places = record { ret = 0; after = 0 };
   personality = false;
   extra = [];
+  token = record { «from» = 0; to = 0 };
   at = 0;
   first_block = first;
   block_count = count;
 }
+
+-- a value of function f that instruction number 0 of this segment makes
+abbrev pub made_in : ℕ → ℕ → ℕ → ValueInfo
+made_in f ty k = record { func = record { 0 = f }; ty = record { 0 = ty }; def = def.Instr (spot k 0) }
 
 -- `define void @0() { call void @1() ret void }`, `define internal void @1() { call void @2() ret void }`,
 -- `declare void @2()`, `declare void @3() nounwind`, `define void @4() { call void @3() ret void }`,
@@ -133,10 +128,10 @@ abbrev pub sample : Module
 sample = record {
   types = type.Void ∷ type.Ptr ∷ type.Int 1 ∷ [];
   globals = [];
-  funcs = a_function linkage.Plain no_func_words 0 1 ∷ a_function linkage.Internal no_func_words 1 1 ∷ a_function linkage.Plain no_func_words 0 0
-      ∷ a_function linkage.Plain nounwind 0 0 ∷ a_function linkage.Plain no_func_words 2 1 ∷ a_function linkage.Plain no_func_words 3 3
-      ∷ a_function linkage.Plain no_func_words 6 3 ∷ a_function linkage.Plain no_func_words 9 3 ∷ a_function linkage.Plain no_func_words 12 3
-      ∷ a_function linkage.Plain noreturn_nocallback 0 0 ∷ a_function linkage.Plain no_func_words 15 1 ∷ [];
+  funcs = a_function linkage.Plain no_func_attrs 0 1 ∷ a_function linkage.Internal no_func_attrs 1 1 ∷ a_function linkage.Plain no_func_attrs 0 0
+      ∷ a_function linkage.Plain nounwind 0 0 ∷ a_function linkage.Plain no_func_attrs 2 1 ∷ a_function linkage.Plain no_func_attrs 3 3
+      ∷ a_function linkage.Plain no_func_attrs 6 3 ∷ a_function linkage.Plain no_func_attrs 9 3 ∷ a_function linkage.Plain no_func_attrs 12 3
+      ∷ a_function linkage.Plain noreturn_nocallback 0 0 ∷ a_function linkage.Plain no_func_attrs 15 1 ∷ [];
   blocks = a_block 0 0 2 ∷ a_block 1 2 2 ∷ a_block 4 4 2
       ∷ a_block 5 6 1 ∷ a_block 5 7 1 ∷ a_block 5 8 1
       ∷ a_block 6 9 1 ∷ a_block 6 10 1 ∷ a_block 6 11 1
@@ -155,10 +150,7 @@ sample = record {
       ∷ an_end 12 (an_invoke 6 13 14) ∷ an_end 13 (op.Ret None)
       ∷ a_segment 14 (an_instr (Some (record { 0 = 3 })) pointer (a_catch 2) ∷ an_instr None void (op.Ret None) ∷ [])
       ∷ an_end 15 (a_call 9) ∷ an_end 15 (op.Ret None) ∷ [];
-  values = record { func = record { 0 = 5 }; ty = record { 0 = pointer }; def = def.Instr (record { 0 = 8 }) 0 }
-      ∷ record { func = record { 0 = 6 }; ty = record { 0 = pointer }; def = def.Instr (record { 0 = 11 }) 0 }
-      ∷ record { func = record { 0 = 7 }; ty = record { 0 = bit }; def = def.Instr (record { 0 = 12 }) 0 }
-      ∷ record { func = record { 0 = 8 }; ty = record { 0 = pointer }; def = def.Instr (record { 0 = 18 }) 0 } ∷ [];
+  values = made_in 5 pointer 8 ∷ made_in 6 pointer 11 ∷ made_in 7 bit 12 ∷ made_in 8 pointer 18 ∷ [];
   parts = [];
   type_at = 0 ∷ 0 ∷ 0 ∷ [];
 }

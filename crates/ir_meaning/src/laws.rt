@@ -1,6 +1,6 @@
 ghost use Rattle.std.specs.Prelude.{◌≡◌, ℕ, List, All};
 ghost use Rattle.ir_module.specs.declared.module.Module.{Module};
-ghost use Rattle.ir_module.specs.Formed.{IsWellFormed};
+ghost use Rattle.ir_module.specs.WellFormed.{IsWellFormed};
 ghost use Rattle.ir_meaning.specs.declared.choice.Choice.{Choice};
 ghost use Rattle.ir_meaning.specs.Frames.{State};
 ghost use Rattle.ir_meaning.specs.Runs.{IsOpening, run, events_of};

@@ -18,7 +18,8 @@ pub fn an_unwind_goes_through_two_bodies()
 
 /// The outside comes back instead, and both bodies return.
 pub fn calls_return_one_after_another()
-    ensures { happened (run sample opened (enters_body 0 ∷ goes_on ∷ goes_on ∷ comes_back ∷ goes_on ∷ goes_on ∷ [])) ≡ Enter 0 ∷ Enter 1 ∷ Return ∷ Return ∷ Return ∷ [] }
+    ensures { happened (run sample opened (enters_body 0 ∷ goes_on ∷ goes_on ∷ comes_back ∷ goes_on ∷ goes_on ∷ [])) ≡
+        Enter 0 ∷ Enter 1 ∷ Return ∷ Return ∷ Return ∷ [] }
 {}
 
 /// The outside, called, enters an open body again.

@@ -2,37 +2,51 @@
 -- nothing, and the fact of a body that unwinds is not held, since the call in it that unwound was able to.
 use Rattle.std.proofs.Common.{◌≡◌, ℕ, Bool, true, false, if◌then◌else◌, List, [], ◌∷◌, Option, None, Some, refl, sym, subst, ◌∙◌, map, ⊎_elim}
 use Rattle.std.specs.List.{AllByRecursion}
+use Rattle.std.proofs.lemmas.Bool.{and_parts, eqb-true}
 use Rattle.std.proofs.lemmas.List.Elements.{recursion_from_All, All-from_recursion}
 use Rattle.ir_module.specs.declared.op.Op.{Op}
 use Rattle.ir_module.specs.declared.op.Op.TheVariants as op
 use Rattle.ir_module.specs.declared.op.Written.{Written}
 use Rattle.ir_module.specs.declared.op.Instr.{Instr}
 use Rattle.ir_module.specs.declared.module.Module.{Module}
-use Rattle.ir_module.specs.Places.{Spot, instr_at, IsIn}
+use Rattle.ir_module.specs.declared.module.Spot.{Spot}
+use Rattle.ir_module.specs.Places.{instr_at, IsIn}
 use Rattle.ir_module.specs.Edges.{catches_all}
-use Rattle.ir_module.specs.Formed.{IsWellFormed}
+use Rattle.ir_module.specs.WellFormed.{IsWellFormed}
 use Rattle.ir_module.specs.Calls.{Nounwind, is_call, inner_callee, is_open, is_promised}
 use Rattle.ir_meaning.specs.declared.choice.Act.{Act}
 use Rattle.ir_meaning.specs.declared.choice.Act.TheVariants as act
 use Rattle.ir_meaning.specs.declared.choice.Choice.{Choice}
 use Rattle.ir_meaning.specs.Frames.{Made, Entered, At, Begun, Active, active, Frame, Body, Outside, State, Event, event, What, Unwind}
-use Rattle.ir_meaning.specs.Machine.{Ended, step, step_of, acts, body_step, does, enters, calls, Landing, Lands, Passes, landing_by, landing_in, landing, events_at, unwinds_of, unwinds}
+use Rattle.ir_meaning.specs.Machine.{Ended, step, step_of, acts, body_step, does, enters, calls}
+use Rattle.ir_meaning.specs.Machine.{Landing, Lands, Passes, landing_by, landing_in, landing, events_at, unwinds_of, unwinds}
 use Rattle.ir_meaning.specs.Runs.{Done, run, events_of, IsOpening}
 use Rattle.ir_meaning.specs.Meanings.{IsBy, HoldsOf, promised_in, promised_to, promises, IsHonest}
 use Rattle.ir_meaning.specs.Links.{CallsBody, CallsBodyIn, BeginsAs, RunsItsCallee, AreLinked, IsLinked}
 use Rattle.ir_meaning.proofs.Instructions.{each_call, by_kind, lets_through}
 use Rattle.ir_meaning.proofs.Runs.{Keeps, run_law, of_events, of_steps}
 use Rattle.ir_meaning.proofs.Linking.{all_linked, all_run}
-use Rattle.positions.specs.declared.pos.Pos.{Pos}
-use Rattle.positions.specs.declared.pos.Pos.TheVariants as pos
-use Rattle.positions.specs.Facts.{Fact, nounwind_of, SupportsItself, keeps_by, call_keeps, KeepsNounwind}
-use Rattle.positions.proofs.Rules.{resume_unwinds}
-use Rattle.laws_control.specs.Soundness.{HoldsAt, FactHolds, IsSound}
+use Rattle.lattice_words.specs.declared.function.TheConstants.{NOUNWIND}
+use Rattle.facts.specs.declared.pos.Pos.{Pos}
+use Rattle.facts.specs.declared.pos.Pos.TheVariants as pos
+use Rattle.facts.specs.Kinds.{NoUnwind}
+use Rattle.facts.specs.Facts.{Fact, fact, dead_at, nounwind_of}
+use Rattle.facts.specs.Masks.{is_built, has_bit_of}
+use Rattle.facts.specs.Promises.{has_by, call_has}
+use Rattle.facts.specs.Functions.{KeepsNounwind}
+use Rattle.facts.specs.Justified.{SupportsItself}
+use Rattle.facts.proofs.Rules.{resume_unwinds}
+use Rattle.facts.proofs.Unbuilt.{unbuilt}
+use Rattle.laws_control.specs.Soundness.{HoldsAt, HoldsAtPos, IsSound}
 
 clash : true ≡ false → ⊥
 clash e = cc
 
 module _ (m : Module) (held : Fact → Bool) (is : SupportsItself m held) where
+  -- a spot that a run comes to is not dead: no kind of fact says so of any
+  alive : (s : Spot) → held (dead_at s) ≡ false
+  alive s = unbuilt m held is (dead_at s) refl
+
   -- nothing that is known keeps the call from unwinding
   abbrev AbleAs : Made → Option ℕ → Type 0
   AbleAs made None = promised_to m Nounwind made None ≡ false
@@ -44,21 +58,22 @@ module _ (m : Module) (held : Fact → Bool) (is : SupportsItself m held) where
   -- ---- a body through which an unwinding goes is able to unwind
 
   -- a call that is able to unwind does not have `nounwind`
-  able_call : (s : Spot) (made : Made) (body : Option ℕ) (instr : Instr) → instr_at m s ≡ Some instr → CallsBody m body instr.op → made ≡ At s → AbleAs made body →
-      call_keeps m held instr.op ≡ false
+  able_call : (s : Spot) (made : Made) (body : Option ℕ) (instr : Instr) → instr_at m s ≡ Some instr → CallsBody m body instr.op →
+      made ≡ At s → AbleAs made body → call_has m held NoUnwind instr.op ≡ false
   able_call s made body instr at calls at_s able = by (inner_callee m instr.op) (subst (AbleAs made) calls.1 able)
     where
-      by : (found : Option ℕ) → AbleAs made found → keeps_by held (is_promised m Nounwind instr.op) found ≡ false
+      by : (found : Option ℕ) → AbleAs made found → has_by held NoUnwind (is_promised m Nounwind instr.op) found ≡ false
       by (Some g) able = able
       by None able =
           subst (λ found. promised_in m Nounwind found ≡ false) at (subst (λ made. promised_to m Nounwind made None ≡ false) at_s able)
 
   -- through an instruction that keeps `nounwind` an unwinding goes only where its call has it
-  kept_call : (picks rest : List ℕ) (o : Op) → is_call o ≡ true → landing_by m picks o ≡ Passes rest → KeepsNounwind m held o → call_keeps m held o ≡ true
+  kept_call : (picks rest : List ℕ) (o : Op) → is_call o ≡ true → landing_by m picks o ≡ Passes rest → KeepsNounwind m held o →
+      call_has m held NoUnwind o ≡ true
   kept_call picks rest =
-      each_call (λ o. landing_by m picks o ≡ Passes rest → KeepsNounwind m held o → call_keeps m held o ≡ true)
-      (λ func_ty callee args words places through kept. kept)
-      (λ func_ty callee args words places normal unwind through kept.
+      each_call (λ o. landing_by m picks o ≡ Passes rest → KeepsNounwind m held o → call_has m held NoUnwind o ≡ true)
+      (λ called through kept. kept)
+      (λ called normal unwind through kept.
       ⊎_elim (λ all. absurd (clash (sym all ∙ lets_through (catches_all m unwind.0) picks rest unwind.0 through))) (λ has. has) kept)
 
   caller_able : (f : ℕ) (s : Spot) (made : Made) (body : Option ℕ) (picks rest : List ℕ) (instr : Instr) → instr_at m s ≡ Some instr → IsIn m f s →
@@ -68,13 +83,14 @@ module _ (m : Module) (held : Fact → Bool) (is : SupportsItself m held) where
       by : (b : Bool) → held (nounwind_of f) ≡ b → b ≡ false
       by false e = refl
       by true e =
-          let kept = (is (nounwind_of f) e).1 s instr within at in
+          let kept = (is (nounwind_of f) e).1 s instr within at (alive s) in
           absurd (clash (sym (kept_call picks rest instr.op calls.0 through kept) ∙ able_call s made body instr at calls at_s able))
 
   caller_in : (f : ℕ) (s : Spot) (made : Made) (body : Option ℕ) (picks rest : List ℕ) (found : Option Instr) → instr_at m s ≡ found → IsIn m f s →
       CallsBodyIn m body found → made ≡ At s → AbleAs made body → landing_in m picks found ≡ Passes rest → held (nounwind_of f) ≡ false
   caller_in f s made body picks rest None at within calls at_s able through = absurd calls
-  caller_in f s made body picks rest (Some instr) at within calls at_s able through = caller_able f s made body picks rest instr at within calls at_s able through
+  caller_in f s made body picks rest (Some instr) at within calls at_s able through =
+      caller_able f s made body picks rest instr at within calls at_s able through
 
   stands_in : (call : Begun) (f : ℕ) (s : Spot) (below : List Frame) → AreLinked m (Body call f s) below → IsIn m f s
   stands_in call f s [] linked = linked.0.1
@@ -95,7 +111,8 @@ module _ (m : Module) (held : Fact → Bool) (is : SupportsItself m held) where
   events_at_able (Lands block) through each = tt
   events_at_able (Passes rest) through each = each rest refl
 
-  unwinds_able : (picks : List ℕ) (top : Frame) (below : List Frame) → AreLinked m top below → IsAble (active top) → AllByRecursion Able (unwinds_of m picks top below)
+  unwinds_able : (picks : List ℕ) (top : Frame) (below : List Frame) → AreLinked m top below → IsAble (active top) →
+      AllByRecursion Able (unwinds_of m picks top below)
   unwinds_able picks top [] linked able = (top_able top [] able, tt)
   unwinds_able picks top (Outside call ∷ below) linked able = (top_able top (Outside call ∷ below) able, tt)
   unwinds_able picks top (Body call func s ∷ below) linked able =
@@ -159,12 +176,14 @@ module _ (m : Module) (held : Fact → Bool) (is : SupportsItself m held) where
   calling t s None = λ _. (tt, tt)
 
   -- a body that does a `resume` is able to unwind
-  resuming : (t : State) (picks : List ℕ) (call : Begun) (func : ℕ) (s : Spot) (below : List Frame) (instr : Instr) (val : Written) → instr_at m s ≡ Some instr →
-      instr.op ≡ op.Resume val → t.stack ≡ Body call func s ∷ below → Keeps Any Given Shown t (unwinds m t picks (Body call func s) below)
+  resuming : (t : State) (picks : List ℕ) (call : Begun) (func : ℕ) (s : Spot) (below : List Frame) (instr : Instr) (val : Written) →
+      instr_at m s ≡ Some instr → instr.op ≡ op.Resume val → t.stack ≡ Body call func s ∷ below →
+      Keeps Any Given Shown t (unwinds m t picks (Body call func s) below)
   resuming t picks call func s below instr val at resumes stack =
       λ given.
       let linked : AreLinked m (Body call func s) below = subst (IsLinked m) stack given.0 in
-      (tt, unwinds_able picks (Body call func s) below linked (resume_unwinds m held is func s instr val (stands_in call func s below linked) at resumes))
+      let within = stands_in call func s below linked in
+      (tt, unwinds_able picks (Body call func s) below linked (resume_unwinds m held is func s instr val within at resumes (alive s)))
 
   doing : (t : State) (picks : List ℕ) (call : Begun) (func : ℕ) (s : Spot) (below : List Frame) (instr : Instr) → instr_at m s ≡ Some instr →
       t.stack ≡ Body call func s ∷ below → Keeps Any Given Shown t (does m t picks call func s below instr.op)
@@ -211,17 +230,29 @@ module _ (m : Module) (held : Fact → Bool) (is : SupportsItself m held) where
       (both (run m opening choices) (all_linked m formed opening opens choices) (fair_steps (run m opening choices) honest)))
 
   -- a call of a body whose fact is held is not able to
-  body_holds : (steps : List Done) (f : ℕ) → AllByRecursion Able (events_of steps) → held (nounwind_of f) ≡ true → (a : Active) → a.body ≡ Some f → HoldsOf Nounwind a steps
+  body_holds : (steps : List Done) (f : ℕ) → AllByRecursion Able (events_of steps) → held (nounwind_of f) ≡ true → (a : Active) →
+      a.body ≡ Some f → HoldsOf Nounwind a steps
   body_holds steps f able has a of =
       let all = All-from_recursion Able (events_of steps) able in
       λ k d l by unwinds. clash (sym has ∙ subst (AbleAs a.call.made) of (all k d l a by unwinds))
 
-  fact_holds : (steps : List Done) (p : Pos) (bit : ℕ) → AllByRecursion Able (events_of steps) → held (record { pos = p; bit = bit }) ≡ true →
-      FactHolds (record { pos = p; bit = bit }) steps
+  built : (p : Pos) (bit : ℕ) → held (fact p bit) ≡ true → is_built p bit ≡ true
+  built p bit has = (and_parts (is_built p bit) (has_bit_of m p bit) (is (fact p bit) has).0.1).0
+
+  another : (p : Pos) (bit : ℕ) → is_built p bit ≡ false → held (fact p bit) ≡ true → ⊥
+  another p bit off has = clash (sym (built p bit has) ∙ off)
+
+  fact_holds : (steps : List Done) (p : Pos) (bit : ℕ) → AllByRecursion Able (events_of steps) → held (fact p bit) ≡ true → HoldsAtPos p bit steps
   fact_holds steps (pos.Function f) bit able has =
-      let fact = (is (record { pos = pos.Function f; bit = bit }) has).0 in
-      let named : held (nounwind_of f.0) ≡ true = subst (λ b. held (record { pos = pos.Function f; bit = b }) ≡ true) fact.1 has in
-      body_holds steps f.0 able named
+      let same : bit ≡ NOUNWIND = eqb-true bit NOUNWIND (built (pos.Function f) bit has) in
+      subst (λ bit. HoldsAtPos (pos.Function f) bit steps) (sym same)
+      (body_holds steps f.0 able (subst (λ bit. held (fact (pos.Function f) bit) ≡ true) same has))
+  fact_holds steps (pos.Segment k) bit able has = another (pos.Segment k) bit refl has
+  fact_holds steps (pos.Value v) bit able has = another (pos.Value v) bit refl has
+  fact_holds steps (pos.Entry f at) bit able has = another (pos.Entry f at) bit refl has
+  fact_holds steps (pos.Return f) bit able has = another (pos.Return f) bit refl has
+  fact_holds steps (pos.Reach row k) bit able has = another (pos.Reach row k) bit refl has
+  fact_holds steps (pos.Effect k) bit able has = clash (is (fact (pos.Effect k) bit) has).0.0
 
   call_holds : (steps : List Done) (s : Spot) (instr : Instr) (f : ℕ) → AllByRecursion Able (events_of steps) →
       AllByRecursion (λ e. AllByRecursion (RunsItsCallee m) e.calls) (events_of steps) → instr_at m s ≡ Some instr → inner_callee m instr.op ≡ Some f →

@@ -1,10 +1,14 @@
 pub use Rattle.ir_meaning.specs.Places
 pub use Rattle.ir_meaning.specs.Calls
 pub use Rattle.ir_meaning.specs.Formed
+pub use Rattle.ir_meaning.specs.WellFormed
 pub use Rattle.ir_meaning.specs.Frames
 pub use Rattle.ir_meaning.specs.Machine
 pub use Rattle.ir_meaning.specs.Runs
 pub use Rattle.ir_meaning.specs.Meanings
 pub use Rattle.ir_meaning.specs.Links
-pub use Rattle.positions.specs.Facts
+pub use Rattle.facts.specs.Kinds
+pub use Rattle.facts.specs.Facts
+pub use Rattle.facts.specs.Masks
+pub use Rattle.facts.specs.Justified
 pub mod Soundness

@@ -1,7 +1,8 @@
 ghost use Rattle.std.specs.Prelude.{◌≡◌, Bool};
 ghost use Rattle.ir_module.specs.declared.module.Module.{Module};
-ghost use Rattle.ir_module.specs.Formed.{IsWellFormed};
-ghost use Rattle.positions.specs.Facts.{Fact, SupportsItself};
+ghost use Rattle.ir_module.specs.WellFormed.{IsWellFormed};
+ghost use Rattle.facts.specs.Facts.{Fact};
+ghost use Rattle.facts.specs.Justified.{SupportsItself};
 ghost use Rattle.laws_control.specs.Soundness.{IsSound};
 
 /// In every honest run of a well formed module, whatever its opening and its choices are, each fact of a set

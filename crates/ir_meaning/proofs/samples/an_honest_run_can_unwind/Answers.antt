@@ -4,12 +4,14 @@ use Rattle.std.proofs.lemmas.Bool.Decides.{eqb_tells}
 use Rattle.std.proofs.lemmas.List.Elements.{All-from_recursion}
 use Rattle.ir_module.specs.Places.{instr_at, entry_of}
 use Rattle.ir_module.specs.Edges.{catches_all}
-use Rattle.ir_module.specs.Calls.{Promise, is_open, is_taken, is_promised, is_written, Nounwind, Noreturn, Nofree, Nocallback, Memory, Nocapture, Readnone, Readonly, Writeonly, Returned, Nonnull, Align, Dereferenceable}
+use Rattle.ir_module.specs.Calls.{is_open, is_taken, is_promised, is_written}
+use Rattle.ir_module.specs.Calls.{Promise, Nounwind, Noreturn, Nofree, Nocallback, Memory, Nonnull, Align, Dereferenceable}
+use Rattle.ir_module.specs.Calls.{Nocapture, Readnone, Readonly, Writeonly, Returned}
 use Rattle.ir_meaning.specs.Frames.{Active, Event}
 use Rattle.ir_meaning.specs.Machine.{step}
 use Rattle.ir_meaning.specs.Runs.{run, events_of}
 use Rattle.ir_meaning.specs.Meanings.{Permits, promises}
-use Rattle.ir_meaning.specs.Sample.{call_words, sample, opened, goes_on, enters_body, throws}
+use Rattle.ir_meaning.specs.Sample.{call_attrs, sample, opened, goes_on, enters_body, throws}
 use Rattle.ir_meaning.proofs.samples.an_honest_run_can_unwind.Goals as goal
 
 clash : true ≡ false → ⊥
@@ -30,7 +32,7 @@ permits Nounwind a e promised none = λ is unwinds. stands_not Nounwind a e.call
 permits Noreturn a e promised none = λ is returns. stands_not Noreturn a e.calls promised none 0 (ap (λ calls. slice_get calls 0) is.1)
 permits Nocallback a e promised none = λ is f enters. stands_not Nocallback a e.calls promised none is.0 is.1
 permits Nofree a e promised none = tt
-permits (Memory word) a e promised none = tt
+permits (Memory memory) a e promised none = tt
 permits (Nocapture at) a e promised none = tt
 permits (Readnone at) a e promised none = tt
 permits (Readonly at) a e promised none = tt
@@ -57,12 +59,12 @@ no_rung n = elim (eqb_tells 0 n) [
     by false = refl
 
 -- where no word is written, none stands there
-none_written : (p : Promise) → is_written p call_words ≡ false
+none_written : (p : Promise) → is_written p call_attrs ≡ false
 none_written Nounwind = refl
 none_written Noreturn = refl
 none_written Nofree = refl
 none_written Nocallback = refl
-none_written (Memory word) = refl
+none_written (Memory memory) = refl
 none_written (Nocapture at) = refl
 none_written (Readnone at) = refl
 none_written (Readonly at) = refl

@@ -1,6 +1,6 @@
 use Rattle.std.proofs.Common.{None, refl, [], ◌∷◌}
 use Rattle.std.proofs.lemmas.List.Elements.{recursion_from_All}
-use Rattle.ir_module.specs.Places.{instr_at, entry_of}
+use Rattle.ir_module.specs.Places.{spot, instr_at, entry_of}
 use Rattle.ir_module.specs.Edges.{catches_all}
 use Rattle.ir_module.specs.Calls.{is_open, is_taken, is_promised, Noreturn, Nocallback}
 use Rattle.ir_meaning.specs.Frames.{At, Active}
@@ -12,7 +12,7 @@ use Rattle.ir_meaning.proofs.samples.each_promise_can_be_broken.Goals as goal
 
 -- the call of the function that promises both
 abbrev promising : Active
-promising = record { call = record { number = 2; made = At (record { seg = 19; at = 0 }) }; body = None }
+promising = record { call = record { number = 2; made = At (spot 19 0) }; body = None }
 
 pub returns : goal.returns
 unfolding run step instr_at entry_of catches_all is_open is_taken is_promised

@@ -1,3 +1,0 @@
-pub mod Unions
-pub mod Rules
-pub mod Growing

@@ -1,5 +1,0 @@
-use Rattle.positions.proofs.Growing.{has_justified}
-use Rattle.positions.proofs.laws.the_greatest_has_what_it_justifies.Goals as goal
-
-pub returns : goal.returns
-returns c = has_justified

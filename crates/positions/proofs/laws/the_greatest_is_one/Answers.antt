@@ -1,5 +1,0 @@
-use Rattle.positions.proofs.Unions.{one_set}
-use Rattle.positions.proofs.laws.the_greatest_is_one.Goals as goal
-
-pub returns : goal.returns
-returns c = one_set

@@ -1,5 +1,0 @@
-use Rattle.positions.proofs.Unions.{is_union}
-use Rattle.positions.proofs.laws.the_greatest_is_the_union.Goals as goal
-
-pub returns : goal.returns
-returns c = is_union
