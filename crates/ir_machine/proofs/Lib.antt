@@ -1,0 +1,14 @@
+pub mod Basics
+pub mod Instructions
+pub mod Moving
+pub mod Carried
+pub mod Brought
+pub mod Valid
+pub mod Running
+pub mod Opening
+pub mod Linking
+pub mod Linked
+pub mod Calling
+pub mod Stays
+pub mod Arguments
+pub mod Nesting

@@ -1,0 +1,11 @@
+pub mod Build
+pub mod ComputingFirst
+pub mod ComputingSecond
+pub mod ComputingThird
+pub mod AccessesFirst
+pub mod AccessesSecond
+pub mod Edges
+pub mod CallingFirst
+pub mod CallingSecond
+pub mod CallingThird
+pub mod Acting
