@@ -1,6 +1,6 @@
 -- Sources and sinks in memory, as contracts see them.
-use Rattle.std.specs.Prelude.{ℕ, ◌+◌, ◌≡◌, List, ◌++◌, Contains, length, take, drop}
-use Rattle.attr_io.specs.Outside.{count_up}
+use Rattle.std.specs.Prelude.{ℕ, ◌+◌, ◌≡◌, Some, None, List, ◌++◌, Contains, length, take, drop}
+use Rattle.attr_io.specs.Outside.{Stream, count_up}
 use Rattle.attr_io.specs.declared.outside.ReadGot.{ReadGot}
 use Rattle.attr_io.specs.declared.outside.ReadGot.TheVariants as read
 use Rattle.attr_io.specs.declared.outside.WriteGot.{WriteGot}
@@ -22,6 +22,22 @@ pub record SinkState : Type 0 where
   pub failing : List ℕ
   pub calls : ℕ
   pub fault_count : ℕ
+
+-- a source in memory tells the bytes that are left
+abbrev pub source_stream : SourceState → Stream
+source_stream s = record { bytes = Some s.remaining; faults = s.fault_count }
+
+-- a sink in memory tells the bytes that it holds
+abbrev pub sink_stream : SinkState → Stream
+sink_stream s = record { bytes = Some s.content; faults = s.fault_count }
+
+-- these bytes are told, and there was no fault
+abbrev pub told : List ℕ → Stream
+told bytes = record { bytes = Some bytes; faults = 0 }
+
+-- no byte is told, and there was no fault
+abbrev pub untold : Stream
+untold = record { bytes = None; faults = 0 }
 
 -- the next read is one of those that fail
 abbrev pub ReadIsToFail : SourceState → Type 0

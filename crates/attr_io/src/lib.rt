@@ -14,8 +14,6 @@ mod outside;
 mod script;
 mod std_streams;
 mod sure;
-#[cfg(test)]
-mod tests;
 mod transfer;
 
 pub use mem_sink::MemSink;

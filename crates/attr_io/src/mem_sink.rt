@@ -1,6 +1,6 @@
 ghost use Rattle.std.specs.Prelude.{◌≡◌, ℕ, ◌-◌, ◌<◌, ◌≤◌, ◌⊎◌, ◌↔◌, List, Some, [], length, take, min};
-ghost use Rattle.attr_io.specs.Outside.{HasWritten, Rose, written};
-ghost use Rattle.attr_io.specs.Memory.{IsFull, SinkState, WriteIsToFail, after_write};
+ghost use Rattle.attr_io.specs.Outside.{HasWritten, NeverFell, Rose, written};
+ghost use Rattle.attr_io.specs.Memory.{IsFull, SinkState, WriteIsToFail, after_write, sink_stream as stream_of};
 
 use crate::copy::copy_front;
 use crate::outside::{Sink, WriteGot};
@@ -59,15 +59,13 @@ impl MemSink {
 }
 
 impl Sink for MemSink {
-    ghost held = { λ s. Some s.content };
-
-    ghost faults = { λ s. s.fault_count };
+    ghost stream = { stream_of };
 
     fn write(&mut self, bytes: &[u8]) -> WriteGot
         requires { 0 < length bytes.now }
-        ensures got { HasWritten (Some self.old.content) (Some self.new.content) result bytes.now }
-        ensures count { self.old.fault_count ≤ self.new.fault_count }
-        ensures failed { result ≡ WriteGot.Failed → Rose self.old.fault_count self.new.fault_count }
+        ensures got { HasWritten (stream_of self.old) (stream_of self.new) result bytes.now }
+        ensures count { NeverFell (stream_of self.old) (stream_of self.new) }
+        ensures failed { result ≡ WriteGot.Failed → Rose (stream_of self.old) (stream_of self.new) }
 
         // Which answer comes, with how many bytes, and what the sink is then.
         ensures refused { (result ≡ WriteGot.Failed) ↔ (WriteIsToFail self.old ⊎ IsFull self.old) }

@@ -1,6 +1,6 @@
 ghost use Rattle.std.specs.Prelude.{◌≡◌, ℕ, ◌<◌, ◌≤◌, ◌↔◌, List, Some, [], length, drop, min};
-ghost use Rattle.attr_io.specs.Outside.{HasRead, Rose, taken};
-ghost use Rattle.attr_io.specs.Memory.{ReadIsToFail, SourceState, after_read};
+ghost use Rattle.attr_io.specs.Outside.{HasRead, NeverFell, Rose, taken};
+ghost use Rattle.attr_io.specs.Memory.{ReadIsToFail, SourceState, after_read, source_stream as stream_of};
 
 use crate::copy::copy_front;
 use crate::outside::{ReadGot, Source};
@@ -54,15 +54,13 @@ impl MemSource {
 }
 
 impl Source for MemSource {
-    ghost left = { λ s. Some s.remaining };
-
-    ghost faults = { λ s. s.fault_count };
+    ghost stream = { stream_of };
 
     fn read(&mut self, buf: &mut [u8]) -> ReadGot
         requires { 0 < length buf.old }
-        ensures got { HasRead (Some self.old.remaining) (Some self.new.remaining) result buf.new }
-        ensures count { self.old.fault_count ≤ self.new.fault_count }
-        ensures failed { result ≡ ReadGot.Failed → Rose self.old.fault_count self.new.fault_count }
+        ensures got { HasRead (stream_of self.old) (stream_of self.new) result buf.new }
+        ensures count { NeverFell (stream_of self.old) (stream_of self.new) }
+        ensures failed { result ≡ ReadGot.Failed → Rose (stream_of self.old) (stream_of self.new) }
 
         // Which answer comes, with how many bytes, and what the source is then.
         ensures listed { (result ≡ ReadGot.Failed) ↔ ReadIsToFail self.old }

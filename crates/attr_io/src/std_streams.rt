@@ -15,17 +15,14 @@ pub struct StdSource<R> {
 
 impl<R: Read> StdSource<R> {
     pub fn new(reader: R) -> StdSource<R>
-        ensures bytes { ⟦<StdSource<R> as Source>⟧.left result ≡ R.remaining reader }
-        ensures count { ⟦<StdSource<R> as Source>⟧.faults result ≡ 0 }
+        ensures { ⟦<StdSource<R> as Source>⟧.stream result ≡ record { bytes = R.remaining reader; faults = 0 } }
     {
         StdSource { reader, faults: 0 }
     }
 }
 
 impl<R: Read> Source for StdSource<R> {
-    ghost left = { λ s. R.remaining s.reader };
-
-    ghost faults = { λ s. s.faults };
+    ghost stream = { λ s. record { bytes = R.remaining s.reader; faults = s.faults } };
 
     fn read(&mut self, buf: &mut [u8]) -> ReadGot {
         while self.faults < u64::MAX {
@@ -58,17 +55,14 @@ pub struct StdSink<W> {
 
 impl<W: Write> StdSink<W> {
     pub fn new(writer: W) -> StdSink<W>
-        ensures bytes { ⟦<StdSink<W> as Sink>⟧.held result ≡ W.contents writer }
-        ensures count { ⟦<StdSink<W> as Sink>⟧.faults result ≡ 0 }
+        ensures { ⟦<StdSink<W> as Sink>⟧.stream result ≡ record { bytes = W.contents writer; faults = 0 } }
     {
         StdSink { writer, faults: 0 }
     }
 }
 
 impl<W: Write> Sink for StdSink<W> {
-    ghost held = { λ s. W.contents s.writer };
-
-    ghost faults = { λ s. s.faults };
+    ghost stream = { λ s. record { bytes = W.contents s.writer; faults = s.faults } };
 
     fn write(&mut self, bytes: &[u8]) -> WriteGot {
         while self.faults < u64::MAX {

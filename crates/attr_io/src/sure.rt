@@ -1,5 +1,6 @@
-ghost use Rattle.std.specs.Prelude.{◌≡◌, ◌≢◌, ℕ, ◌<◌, ◌≤◌, ◌↔◌, List, Some, None, [], length, drop, min};
-ghost use Rattle.attr_io.specs.Outside.{HasRead, HasWritten, Rose, taken};
+ghost use Rattle.std.specs.Prelude.{◌≡◌, ◌≢◌, ℕ, ◌<◌, ◌≤◌, ◌↔◌, List, [], length, drop, min};
+ghost use Rattle.attr_io.specs.Outside.{HasRead, HasWritten, NeverFell, Rose, taken};
+ghost use Rattle.attr_io.specs.Memory.{told, untold};
 
 use crate::copy::copy_front;
 use crate::outside::{ReadGot, Sink, Source, WriteGot};
@@ -31,15 +32,13 @@ impl SureSource {
 }
 
 impl Source for SureSource {
-    ghost left = { λ bytes. Some bytes };
-
-    ghost faults = { λ _. 0 };
+    ghost stream = { told };
 
     fn read(&mut self, buf: &mut [u8]) -> ReadGot
         requires { 0 < length buf.old }
-        ensures got { HasRead (Some self.old) (Some self.new) result buf.new }
-        ensures count { 0 ≤ 0 }
-        ensures failed { result ≡ ReadGot.Failed → Rose 0 0 }
+        ensures got { HasRead (told self.old) (told self.new) result buf.new }
+        ensures count { NeverFell (told self.old) (told self.new) }
+        ensures failed { result ≡ ReadGot.Failed → Rose (told self.old) (told self.new) }
 
         ensures sure { result ≢ ReadGot.Failed }
         ensures end { (result ≡ ReadGot.End) ↔ (self.old ≡ []) }
@@ -61,23 +60,20 @@ pub struct SureSink;
 
 impl SureSink {
     pub fn new() -> SureSink
-        ensures untold { ⟦<SureSink as Sink>⟧.held result ≡ None }
-        ensures count { ⟦<SureSink as Sink>⟧.faults result ≡ 0 }
+        ensures { ⟦<SureSink as Sink>⟧.stream result ≡ untold }
     {
         SureSink
     }
 }
 
 impl Sink for SureSink {
-    ghost held = { λ _. None };
-
-    ghost faults = { λ _. 0 };
+    ghost stream = { λ _. untold };
 
     fn write(&mut self, bytes: &[u8]) -> WriteGot
         requires { 0 < length bytes.now }
-        ensures got { HasWritten None None result bytes.now }
-        ensures count { 0 ≤ 0 }
-        ensures failed { result ≡ WriteGot.Failed → Rose 0 0 }
+        ensures got { HasWritten untold untold result bytes.now }
+        ensures count { NeverFell untold untold }
+        ensures failed { result ≡ WriteGot.Failed → Rose untold untold }
 
         ensures whole { result ≡ WriteGot.Took (length bytes.now) }
     {

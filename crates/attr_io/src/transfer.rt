@@ -1,7 +1,6 @@
 ghost use Rattle.std.specs.Prelude.{◌≡◌, ◌+◌, ◌<◌, ◌≤◌, ◌⊎◌, IsOk, IsErrOf, IfOk, length, vec_len};
-ghost use Rattle.attr_io.specs.Outside.{HasRead, Rose, taken};
-ghost use Rattle.std.specs.Io.KnownBytes.{Appends};
-ghost use Rattle.attr_io.specs.Transfer.{AppendsPart, AreAtMost, AreMoreThan, GaveAtMost, GaveExactly, IsWhole};
+ghost use Rattle.attr_io.specs.Outside.{HasRead, NeverFell, Rose, Wrote, taken};
+ghost use Rattle.attr_io.specs.Transfer.{AreAtMost, AreMoreThan, GaveAtMost, GaveExactly, IsWhole, WrotePart};
 
 use crate::outside::{ReadGot, Sink, Source, WriteGot};
 use std::alloc::{AllocError, Global};
@@ -49,10 +48,10 @@ fn make_buffer(alloc: Global) -> Result<Vec<u8>, AllocError>
 fn read_front<S: Source>(source: &mut S, buffer: &mut [u8], room: usize) -> ReadGot
     requires some { 0 < room }
     requires fits { room ≤ length buffer.old }
-    ensures got { HasRead (S.left source.old) (S.left source.new) result buffer.new }
+    ensures got { HasRead (S.stream source.old) (S.stream source.new) result buffer.new }
     ensures within { taken result ≤ room }
-    ensures count { S.faults source.old ≤ S.faults source.new }
-    ensures failed { result ≡ ReadGot.Failed → Rose (S.faults source.old) (S.faults source.new) }
+    ensures count { NeverFell (S.stream source.old) (S.stream source.new) }
+    ensures failed { result ≡ ReadGot.Failed → Rose (S.stream source.old) (S.stream source.new) }
 {
     source.read(&mut buffer[..room])
 }
@@ -60,19 +59,19 @@ fn read_front<S: Source>(source: &mut S, buffer: &mut [u8], room: usize) -> Read
 /// Reads a source to its end, of at most `limit` bytes. Reading goes through a buffer of 65,536 bytes.
 /// It stops at the first failed read, and as soon as one byte more than `limit` was taken.
 pub fn read_all<S: Source>(alloc: Global, source: &mut S, limit: usize) -> Result<Vec<u8>, ReadStop>
-    ensures whole { IfOk result (λ bytes. IsWhole (S.left source.old) (S.left source.new) bytes.items) }
+    ensures whole { IfOk result (λ bytes. IsWhole (S.stream source.old) (S.stream source.new) bytes.items) }
     ensures within { IfOk result (λ bytes. vec_len bytes ≤ limit) }
-    ensures failed { IsErrOf result ReadStop.Failed → Rose (S.faults source.old) (S.faults source.new)
-        × GaveAtMost (S.left source.old) (S.left source.new) limit }
+    ensures failed { IsErrOf result ReadStop.Failed → Rose (S.stream source.old) (S.stream source.new)
+        × GaveAtMost (S.stream source.old) (S.stream source.new) limit }
     ensures too_large { IsErrOf result ReadStop.TooLarge
-        → GaveExactly (S.left source.old) (S.left source.new) (limit + 1) }
-    ensures at_most { GaveAtMost (S.left source.old) (S.left source.new) (limit + 1) }
-    ensures count { S.faults source.old ≤ S.faults source.new }
+        → GaveExactly (S.stream source.old) (S.stream source.new) (limit + 1) }
+    ensures at_most { GaveAtMost (S.stream source.old) (S.stream source.new) (limit + 1) }
+    ensures count { NeverFell (S.stream source.old) (S.stream source.new) }
 
     // Which answer comes without a fault, if memory is left.
-    ensures fits { AreAtMost (S.left source.old) limit → ¬ Rose (S.faults source.old) (S.faults source.new)
+    ensures fits { AreAtMost (S.stream source.old).bytes limit → ¬ Rose (S.stream source.old) (S.stream source.new)
         → IsOk result ⊎ IsErrOf result ReadStop.NoMemory }
-    ensures exceeds { AreMoreThan (S.left source.old) limit → ¬ Rose (S.faults source.old) (S.faults source.new)
+    ensures exceeds { AreMoreThan (S.stream source.old).bytes limit → ¬ Rose (S.stream source.old) (S.stream source.new)
         → IsErrOf result ReadStop.TooLarge ⊎ IsErrOf result ReadStop.NoMemory }
 {
     let mut storage = make_buffer(alloc)?;
@@ -91,11 +90,11 @@ pub fn read_all<S: Source>(alloc: Global, source: &mut S, limit: usize) -> Resul
 
 /// Writes a whole text to a sink, and stops at the first failed write.
 pub fn write_all<O: Sink>(sink: &mut O, bytes: &[u8]) -> WriteEnd
-    ensures done { result ≡ WriteEnd.Done → Appends (O.held sink.old) (O.held sink.new) bytes.now }
-    ensures failed { result ≡ WriteEnd.Failed → Rose (O.faults sink.old) (O.faults sink.new)
-        × AppendsPart (O.held sink.old) (O.held sink.new) bytes.now }
-    ensures count { O.faults sink.old ≤ O.faults sink.new }
-    ensures complete { ¬ Rose (O.faults sink.old) (O.faults sink.new) → result ≡ WriteEnd.Done }
+    ensures done { result ≡ WriteEnd.Done → Wrote (O.stream sink.old) (O.stream sink.new) bytes.now }
+    ensures failed { result ≡ WriteEnd.Failed → Rose (O.stream sink.old) (O.stream sink.new)
+        × WrotePart (O.stream sink.old) (O.stream sink.new) bytes.now }
+    ensures count { NeverFell (O.stream sink.old) (O.stream sink.new) }
+    ensures complete { ¬ Rose (O.stream sink.old) (O.stream sink.new) → result ≡ WriteEnd.Done }
 {
     let mut at = 0;
     while at < bytes.len() {

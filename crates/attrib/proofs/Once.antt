@@ -10,8 +10,9 @@ use Rattle.slice_module.specs.Module.{calls_of}
 use Rattle.slice_module.proofs.Single.{one_module}
 use Rattle.slice_facts.specs.Facts.{is_body}
 use Rattle.slice_module.specs.Tables.{resolved}
-use Rattle.positions.specs.Facts.{nounwind_of, IsGreatest}
-use Rattle.positions.proofs.Unions.{one_set}
+use Rattle.facts.specs.Facts.{nounwind_of}
+use Rattle.facts.specs.Justified.{IsGreatest}
+use Rattle.facts.proofs.Unions.{one_set}
 use Rattle.slice_facts.specs.Printed.{word_at, header_words, call_words, words_from, insertions_of}
 use Rattle.weave.specs.Woven.{woven_from}
 use Rattle.attrib.specs.Annotated.{IsAnnotated}

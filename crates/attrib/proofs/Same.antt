@@ -2,18 +2,26 @@
 use Rattle.std.proofs.Common.{◌≡◌, ℕ, ◌+◌, ◌==◌, Bool, true, false, if◌then◌else◌, inl, inr, List, All, slice_get, get_or, Option, None, Some, refl, sym, ap, subst, ◌∙◌, arith}
 use Rattle.std.specs.Option.{is_some}
 use Rattle.std.proofs.lemmas.Option.{slice_get-get_or, slice_get_within}
+use Rattle.std.proofs.lemmas.Bool.{and_from, and_parts, eqb-true, false≢true}
 use Rattle.std.proofs.lemmas.Bool.Decides.{eqb_tells}
 use Rattle.lattice_words.specs.declared.function.TheConstants.{NOUNWIND}
 use Rattle.ir_module.specs.declared.op.Instr.{Instr}
 use Rattle.ir_module.specs.declared.module.Seg.{Seg}
 use Rattle.ir_module.specs.declared.module.Block.{Block as Run}
-use Rattle.ir_module.specs.Places.{Spot, in_seg, instr_at, IsIn}
+use Rattle.ir_module.specs.declared.module.Spot.{Spot}
+use Rattle.ir_module.specs.Places.{spot, in_seg, instr_at, IsIn}
 use Rattle.ir_module.specs.Calls.{Nounwind, callee_in, inner_callee, direct_callee, is_promised}
 use Rattle.ir_module.proofs.Runs.{there as is_there}
-use Rattle.positions.specs.declared.pos.Pos.{Pos}
-use Rattle.positions.specs.declared.pos.Pos.TheVariants as pos
-use Rattle.positions.specs.Facts as fact
-use Rattle.positions.specs.Facts.{Fact, nounwind_of, keeps_by, KeepsNounwind}
+use Rattle.facts.specs.declared.pos.Pos.{Pos}
+use Rattle.facts.specs.declared.pos.Pos.TheVariants as pos
+use Rattle.facts.specs.Kinds.{NoUnwind}
+use Rattle.facts.specs.Bodies as entry
+use Rattle.facts.specs.Facts.{Fact, fact, dead_at, nounwind_of}
+use Rattle.facts.specs.Masks.{is_built, has_bit_of, IsFact}
+use Rattle.facts.specs.Promises.{has_by, call_has}
+use Rattle.facts.specs.Functions.{KeepsNounwind}
+use Rattle.facts.specs.Justified as by_facts
+use Rattle.facts.proofs.Unbuilt.{unbuilt}
 use Rattle.slice_module.specs.declared.module.Call.{Call}
 use Rattle.slice_module.specs.declared.module.Block.{Block}
 use Rattle.slice_module.specs.declared.module.Func.{Func}
@@ -24,7 +32,7 @@ use Rattle.slice_module.proofs.Tables.{block_at, seg_at, run_of_func, seg_of_fun
 use Rattle.slice_module.proofs.Formed.{all_at, callee_within, There, there, block_there, one_instr}
 use Rattle.slice_facts.specs.Facts as written
 use Rattle.slice_facts.specs.Facts.{has_body, is_body}
-use Rattle.slice_facts.proofs.Direct.{exact_same, direct, inner_same, promised_same}
+use Rattle.slice_facts.proofs.Direct.{body_same, direct, inner_same, promised_same}
 use Rattle.attrib.specs.Deduced.{facts_of}
 use Rattle.attrib.proofs.Facts.{keeps, SupportsItself, IsGreatest}
 
@@ -36,7 +44,7 @@ module _ (b : List ℕ) (m : Module) (accepted : Accepted b m) (F : Fact → Boo
   mine f = F (nounwind_of f)
 
   -- a call keeps the fact where the call of the resolved module does
-  keeps_there : (c : Call) (g : Func) → slice_get m.funcs c.callee.0 ≡ Some g → fact.call_keeps (resolved b m) F (call_instr c).op ≡ keeps m mine c
+  keeps_there : (c : Call) (g : Func) → slice_get m.funcs c.callee.0 ≡ Some g → call_has (resolved b m) F NoUnwind (call_instr c).op ≡ keeps m mine c
   keeps_there c g at = by (is_body m c.callee.0) refl
     where
       runs : (v : Bool) → is_body m c.callee.0 ≡ v → inner_callee (resolved b m) (call_instr c).op ≡ callee_in v (Some c.callee)
@@ -48,21 +56,21 @@ module _ (b : List ℕ) (m : Module) (accepted : Accepted b m) (F : Fact → Boo
       no_body (Some block) e = absurd (cc)
 
       by : (v : Bool) → is_body m c.callee.0 ≡ v →
-          fact.call_keeps (resolved b m) F (call_instr c).op ≡ (if v then mine c.callee.0 else written.is_promised m c)
-      by true e = ap (keeps_by F (is_promised (resolved b m) Nounwind (call_instr c).op)) (runs true e)
+          call_has (resolved b m) F NoUnwind (call_instr c).op ≡ (if v then mine c.callee.0 else written.is_promised m c)
+      by true e = ap (has_by F NoUnwind (is_promised (resolved b m) Nounwind (call_instr c).op)) (runs true e)
       by false e =
-          ap (keeps_by F (is_promised (resolved b m) Nounwind (call_instr c).op)) (runs false e)
-          ∙ promised_same b m c g at (no_body g.body (sym (ap has_body at) ∙ e))
+          ap (has_by F NoUnwind (is_promised (resolved b m) Nounwind (call_instr c).op)) (runs false e)
+          ∙ promised_same b m c g at accepted (no_body g.body (sym (ap has_body at) ∙ e))
 
   keeps_same : (f j : ℕ) (g : Func) (block : Block) (c : Call) → slice_get m.funcs f ≡ Some g → g.body ≡ Some block → slice_get block.calls j ≡ Some c →
-      fact.call_keeps (resolved b m) F (call_instr c).op ≡ keeps m mine c
+      call_has (resolved b m) F NoUnwind (call_instr c).op ≡ keeps m mine c
   keeps_same f j g block c at body call =
       let callee = is_there m.funcs c.callee.0 (callee_within m b accepted f j g block c at body call) in
       keeps_there c callee.0 callee.1
 
   -- ---- from the resolved module to functions and calls
   spot_of : ℕ → ℕ → Spot
-  spot_of f j = record { seg = seg_at 0 m.funcs f + j; at = 0 }
+  spot_of f j = spot (seg_at 0 m.funcs f + j) 0
 
   seg_there : (f j : ℕ) (g : Func) (block : Block) (c : Call) → slice_get m.funcs f ≡ Some g → g.body ≡ Some block → slice_get block.calls j ≡ Some c →
       slice_get (segs_from 0 m.funcs) (seg_at 0 m.funcs f + j) ≡ Some (segment (block_at 0 m.funcs f) (call_instr c))
@@ -86,19 +94,20 @@ module _ (b : List ℕ) (m : Module) (accepted : Accepted b m) (F : Fact → Boo
   unfolding resolved spot_of instr_at
   call_there f j g block c at body call = ap (in_seg 0) (seg_there f j g block c at body call)
 
-  calls_keep : fact.SupportsItself (resolved b m) F → (f : ℕ) (g : Func) (found : Option Block) → slice_get m.funcs f ≡ Some g → g.body ≡ found → mine f ≡ true →
-      All (λ c. keeps m mine c ≡ true) (block_calls found)
+  calls_keep : by_facts.SupportsItself (resolved b m) F → (f : ℕ) (g : Func) (found : Option Block) → slice_get m.funcs f ≡ Some g → g.body ≡ found →
+      mine f ≡ true → All (λ c. keeps m mine c ≡ true) (block_calls found)
   calls_keep is f g None at body h = λ k d l. absurd (omega arith)
   calls_keep is f g (Some block) at body h = λ k d l.
       let c = get_or block.calls k d in
       let call : slice_get block.calls k ≡ Some c = slice_get-get_or block.calls k d l in
       let kept : KeepsNounwind (resolved b m) F (call_instr c).op =
-      (is (nounwind_of f) h).1 (spot_of f k) (call_instr c) (is_in f k g block c at body call) (call_there f k g block c at body call) in
+      (is (nounwind_of f) h).1 (spot_of f k) (call_instr c) (is_in f k g block c at body call) (call_there f k g block c at body call)
+      (unbuilt (resolved b m) F is (dead_at (spot_of f k)) refl) in
       sym (keeps_same f k g block c at body call) ∙ kept
 
-  pub down : fact.SupportsItself (resolved b m) F → SupportsItself m mine
+  pub down : by_facts.SupportsItself (resolved b m) F → SupportsItself m mine
   down is f h = (
-    sym (exact_same b m f) ∙ (is (nounwind_of f) h).0.0,
+    sym (body_same b m f) ∙ (and_parts (entry.is_body (resolved b m) f) true (is (nounwind_of f) h).0.1).0,
     λ func at. calls_keep is f func func.body at refl h,
   )
 
@@ -119,12 +128,13 @@ module _ (b : List ℕ) (m : Module) (accepted : Accepted b m) (held : ℕ → B
       KeepsNounwind (resolved b m) (facts_of held) instr.op
   unfolding resolved instr_at
   instr_kept f s instr within at h =
-      let t : There m s.seg within.seg = there m s.seg within.seg within.at_seg in
-      let block : within.block ≡ run_of (0 + t.place.f) (seg_at 0 m.funcs t.place.f) t.place.b = some_is (sym within.at_block ∙ block_there m s.seg within.seg t) in
+      let t : There m s.seg.0 within.seg = there m s.seg.0 within.seg within.at_seg in
+      let block : within.block ≡ run_of (0 + t.place.f) (seg_at 0 m.funcs t.place.f) t.place.b =
+      some_is (sym within.at_block ∙ block_there m s.seg.0 within.seg t) in
       let f_is : t.place.f ≡ f = omega (arith, within.in_func, ap (λ (r : Run). r.func.0) block) in
       let found : slice_get within.seg.instrs s.at ≡ Some instr = sym (ap (in_seg s.at) within.at_seg) ∙ at in
-      let one = one_instr m s.seg s.at within.seg instr t found in
-      subst (λ (x : Instr). KeepsNounwind (resolved b m) (facts_of held) x.op) (sym one.1) (kept_there f s.seg within.seg t f_is h)
+      let one = one_instr m s.seg.0 s.at within.seg instr t found in
+      subst (λ (x : Instr). KeepsNounwind (resolved b m) (facts_of held) x.op) (sym one.1) (kept_there f s.seg.0 within.seg t f_is h)
 
   held_then : (f bit : ℕ) → (if bit == NOUNWIND then held f else false) ≡ true → (bit ≡ NOUNWIND) × (held f ≡ true)
   held_then f bit e = elim (eqb_tells bit NOUNWIND) [
@@ -140,28 +150,48 @@ module _ (b : List ℕ) (m : Module) (accepted : Accepted b m) (held : ℕ → B
       none_held true t e = cc
       none_held false t e = cc
 
-  fact_up : (p : Pos) (bit : ℕ) → facts_of held (record { pos = p; bit = bit }) ≡ true →
-      fact.IsFact (resolved b m) (record { pos = p; bit = bit }) × fact.Justified (resolved b m) (facts_of held) (record { pos = p; bit = bit })
-  fact_up (pos.Function f) bit h =
-      let both = held_then f.0 bit h in (
-        (exact_same b m f.0 ∙ (is f.0 both.1).0, both.0),
-        λ s instr within at. instr_kept f.0 s instr within at both.1,
-      )
+  abbrev Supported : Fact → Type 0
+  Supported x = IsFact (resolved b m) x × by_facts.Justified (resolved b m) (facts_of held) x
 
-  pub up : fact.SupportsItself (resolved b m) (facts_of held)
+  nounwind_up : (f : ℕ) → held f ≡ true → Supported (nounwind_of f)
+  nounwind_up f h = (
+    (refl, and_from (entry.is_body (resolved b m) f) true (body_same b m f ∙ (is f h).0) refl),
+    λ s instr within at alive. instr_kept f s instr within at h,
+  )
+
+  fact_up : (p : Pos) (bit : ℕ) → facts_of held (fact p bit) ≡ true → Supported (fact p bit)
+  fact_up (pos.Function f) bit h =
+      let both = held_then f.0 bit h in subst (λ bit. Supported (fact (pos.Function f) bit)) (sym both.0) (nounwind_up f.0 both.1)
+  fact_up (pos.Segment k) bit h = absurd (false≢true h)
+  fact_up (pos.Value v) bit h = absurd (false≢true h)
+  fact_up (pos.Entry f at) bit h = absurd (false≢true h)
+  fact_up (pos.Return f) bit h = absurd (false≢true h)
+  fact_up (pos.Reach row k) bit h = absurd (false≢true h)
+  fact_up (pos.Effect k) bit h = absurd (false≢true h)
+
+  pub up : by_facts.SupportsItself (resolved b m) (facts_of held)
   up x h = fact_up x.pos x.bit h
 
 -- the greatest set by functions is the greatest set of the resolved module
-pub greatest_resolved : (b : List ℕ) (m : Module) → Accepted b m → (held : ℕ → Bool) → IsGreatest m held → fact.IsGreatest (resolved b m) (facts_of held)
+pub greatest_resolved : (b : List ℕ) (m : Module) → Accepted b m → (held : ℕ → Bool) → IsGreatest m held → by_facts.IsGreatest (resolved b m) (facts_of held)
 greatest_resolved b m accepted held g = record {
   is_one = up b m accepted held g.is_one;
   contains = λ other is x h. contained other is x.pos x.bit h;
 }
   where
-    contained : (other : Fact → Bool) → fact.SupportsItself (resolved b m) other → (p : Pos) (bit : ℕ) → other (record { pos = p; bit = bit }) ≡ true →
-        facts_of held (record { pos = p; bit = bit }) ≡ true
+    built : (other : Fact → Bool) → by_facts.SupportsItself (resolved b m) other → (p : Pos) (bit : ℕ) → other (fact p bit) ≡ true → is_built p bit ≡ true
+    built other is p bit h = (and_parts (is_built p bit) (has_bit_of (resolved b m) p bit) (is (fact p bit) h).0.1).0
+
+    contained : (other : Fact → Bool) → by_facts.SupportsItself (resolved b m) other → (p : Pos) (bit : ℕ) → other (fact p bit) ≡ true →
+        facts_of held (fact p bit) ≡ true
     contained other is (pos.Function f) bit h =
-        let fact = (is (record { pos = pos.Function f; bit = bit }) h).0 in
-        let named : other (nounwind_of f.0) ≡ true = subst (λ b. other (record { pos = pos.Function f; bit = b }) ≡ true) fact.1 h in
+        let same : bit ≡ NOUNWIND = eqb-true bit NOUNWIND (built other is (pos.Function f) bit h) in
+        let named : other (nounwind_of f.0) ≡ true = subst (λ bit. other (fact (pos.Function f) bit) ≡ true) same h in
         let mine : held f.0 ≡ true = g.contains (λ f. other (nounwind_of f)) (down b m accepted other is) f.0 named in
-        subst (λ b. (if b == NOUNWIND then held f.0 else false) ≡ true) (sym fact.1) mine
+        subst (λ b. (if b == NOUNWIND then held f.0 else false) ≡ true) (sym same) mine
+    contained other is (pos.Segment k) bit h = built other is (pos.Segment k) bit h
+    contained other is (pos.Value v) bit h = built other is (pos.Value v) bit h
+    contained other is (pos.Entry f at) bit h = built other is (pos.Entry f at) bit h
+    contained other is (pos.Return f) bit h = built other is (pos.Return f) bit h
+    contained other is (pos.Reach row k) bit h = built other is (pos.Reach row k) bit h
+    contained other is (pos.Effect k) bit h = sym (is (fact (pos.Effect k) bit) h).0.0

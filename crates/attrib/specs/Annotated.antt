@@ -4,7 +4,8 @@ use Rattle.slice_module.specs.declared.module.Module.{Module}
 use Rattle.slice_module.specs.Module.{Accepted}
 use Rattle.slice_module.specs.Tables.{resolved}
 use Rattle.slice_facts.specs.Printed.{insertions_of}
-use Rattle.positions.specs.Facts.{Fact, nounwind_of, IsGreatest}
+use Rattle.facts.specs.Facts.{Fact, nounwind_of}
+use Rattle.facts.specs.Justified.{IsGreatest}
 use Rattle.laws_control.specs.Soundness.{IsSound}
 use Rattle.weave.specs.Woven.{Woven}
 

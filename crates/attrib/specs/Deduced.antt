@@ -11,9 +11,9 @@ use Rattle.slice_module.specs.declared.module.Module.{Module}
 use Rattle.slice_module.specs.Module.{calls_of}
 use Rattle.slice_facts.specs.Facts.{is_body, is_promised}
 use Rattle.lattice_words.specs.declared.function.TheConstants.{NOUNWIND}
-use Rattle.positions.specs.declared.pos.Pos.{Pos}
-use Rattle.positions.specs.declared.pos.Pos.TheVariants as pos
-use Rattle.positions.specs.Facts.{Fact}
+use Rattle.facts.specs.declared.pos.Pos.{Pos}
+use Rattle.facts.specs.declared.pos.Pos.TheVariants as pos
+use Rattle.facts.specs.Facts.{Fact}
 
 -- a test as a word
 abbrev pub bit_of : Bool → ℕ
@@ -42,6 +42,7 @@ system_of m = with_functions m (with_masks (masks_of m)) 0 m.funcs
 -- the facts of a set of functions: `nounwind` of each
 abbrev pub holds_at : (ℕ → Bool) → Pos → ℕ → Bool
 holds_at held (pos.Function f) bit = if bit == NOUNWIND then held f.0 else false
+holds_at held _ bit = false
 
 abbrev pub facts_of : (ℕ → Bool) → Fact → Bool
 facts_of held x = holds_at held x.pos x.bit

@@ -12,7 +12,10 @@ pub use Rattle.laws_control.specs.Frames
 pub use Rattle.laws_control.specs.Machine
 pub use Rattle.laws_control.specs.Runs
 pub use Rattle.laws_control.specs.Meanings
+pub use Rattle.laws_control.specs.Kinds
 pub use Rattle.laws_control.specs.Facts
+pub use Rattle.laws_control.specs.Masks
+pub use Rattle.laws_control.specs.Justified
 pub use Rattle.laws_control.specs.Soundness
 pub use Rattle.weave.specs.Woven
 pub mod Annotated

@@ -1,14 +1,13 @@
 -- What a run of the program reads and writes.
 use Rattle.std.specs.Prelude.{◌≡◌, ◌≢◌, ◌≤◌, ◌⊎◌, ℕ, List, [], length, codes, Option, Some, None}
-use Rattle.std.specs.Io.KnownBytes.{Appends}
 use Rattle.attr_ids.specs.declared.status.Status.{Status}
 use Rattle.attr_ids.specs.declared.status.Status.TheVariants as status
-use Rattle.attr_io.specs.Outside.{Rose}
-use Rattle.attr_io.specs.Transfer.{IsWhole, GaveExactly, AppendsPart}
+use Rattle.attr_io.specs.Outside.{Rose, Stream, Wrote}
+use Rattle.attr_io.specs.Transfer.{IsWhole, GaveExactly, WrotePart}
 use Rattle.attrib.specs.Annotated.{InSlice, IsAnnotated}
 
 abbrev pub usage_line : List ℕ
-usage_line = codes "usage: attrib [--workers N] [--emit module|list|summary|run|why] [--generate N]\n"
+usage_line = codes "usage: attrib\n"
 
 abbrev pub read_line : List ℕ
 read_line = codes "attrib: read failed\n"
@@ -25,6 +24,8 @@ slice_line = codes "attrib: not built yet\n"
 abbrev pub bytes_line : List ℕ
 bytes_line = codes "attrib: too large: Bytes 67108865\n"
 
+-- ---- lines on the stream of errors
+
 -- where the line of a status can't be written, the status is a fault of writing, but that a want of memory stays one
 abbrev pub fault_status : Status → Status
 fault_status status.Done = status.WriteFault
@@ -34,44 +35,45 @@ fault_status status.ReadFault = status.WriteFault
 fault_status status.WriteFault = status.WriteFault
 fault_status status.NoMemory = status.NoMemory
 
--- a status was answered with its line written, or the line was written in part, as the count of faults shows
-abbrev pub EndsWith : Status → List ℕ → Status → Option (List ℕ) → Option (List ℕ) → ℕ → ℕ → Type 0
-EndsWith wanted line answered errs errs' faults faults' =
-    ((answered ≡ wanted) × Appends errs errs' line)
-    ⊎ ((answered ≡ fault_status wanted) × Rose faults faults' × AppendsPart errs errs' line)
+-- the stream's count of faults rose, and the line is there in part
+abbrev pub BreaksOff : Stream → Stream → List ℕ → Type 0
+BreaksOff old new line = Rose old new × WrotePart old new line
 
--- a line is on the stream of errors, whole or in part
-abbrev pub HasLine : Option (List ℕ) → Option (List ℕ) → List ℕ → Type 0
-HasLine errs errs' line = Appends errs errs' line ⊎ AppendsPart errs errs' line
+-- the line is there, whole, or broken off by a fault of the stream
+abbrev pub Says : Stream → Stream → List ℕ → Type 0
+Says old new line = Wrote old new line ⊎ BreaksOff old new line
+
+-- a status was answered with its line written, or its line broke off
+abbrev pub EndsWith : Status → List ℕ → Status → Stream → Stream → Type 0
+EndsWith wanted line answered old new =
+    ((answered ≡ wanted) × Wrote old new line) ⊎ ((answered ≡ fault_status wanted) × BreaksOff old new line)
+
+-- ---- what is read and printed
 
 -- the one text that is printed for what was read to its end
-abbrev pub IsPrinted : Option (List ℕ) → Option (List ℕ) → List ℕ → Type 0
-IsPrinted left left' text = (b : List ℕ) × IsWhole left left' b × IsAnnotated b text
+abbrev pub IsPrinted : Stream → Stream → List ℕ → Type 0
+IsPrinted source source' text = (b : List ℕ) × IsWhole source source' b × IsAnnotated b text
 
 -- reading came to the end, and exactly the one text that is printed for what was read is out
-abbrev pub Prints : Option (List ℕ) → Option (List ℕ) → Option (List ℕ) → Option (List ℕ) → Type 0
-Prints left left' held held' = (text : List ℕ) × IsPrinted left left' text × Appends held held' text
-
--- a part of that text is out
-abbrev pub PrintsPart : Option (List ℕ) → Option (List ℕ) → Option (List ℕ) → Option (List ℕ) → Type 0
-PrintsPart left left' held held' = (text : List ℕ) × IsPrinted left left' text × AppendsPart held held' text
+abbrev pub Prints : Stream → Stream → Stream → Stream → Type 0
+Prints source source' out out' = (text : List ℕ) × IsPrinted source source' text × Wrote out out' text
 
 -- reading came to the end, and what was read is outside the slice
-abbrev pub ReadOutside : Option (List ℕ) → Option (List ℕ) → Type 0
-ReadOutside left left' = (b : List ℕ) × IsWhole left left' b × (length b ≤ 67108864) × (InSlice b → ⊥)
+abbrev pub ReadOutside : Stream → Stream → Type 0
+ReadOutside source source' = (b : List ℕ) × IsWhole source source' b × (length b ≤ 67108864) × (InSlice b → ⊥)
 
 -- one byte more was read than a text may have
-abbrev pub ReadTooMuch : Option (List ℕ) → Option (List ℕ) → Type 0
-ReadTooMuch left left' = GaveExactly left left' 67108865
+abbrev pub ReadTooMuch : Stream → Stream → Type 0
+ReadTooMuch source source' = GaveExactly source source' 67108865
 
 -- the line of what was read that is refused
-abbrev pub IsRefusedBy : Option (List ℕ) → Option (List ℕ) → List ℕ → Type 0
-IsRefusedBy left left' line = (ReadOutside left left' × (line ≡ slice_line)) ⊎ (ReadTooMuch left left' × (line ≡ bytes_line))
+abbrev pub IsRefusedBy : Stream → Stream → List ℕ → Type 0
+IsRefusedBy source source' line = (ReadOutside source source' × (line ≡ slice_line)) ⊎ (ReadTooMuch source source' × (line ≡ bytes_line))
 
 -- the line of a cause other than want of memory and a fault of writing: words on the command line, a fault of reading, what was read
-abbrev pub IsCausedBy : {W : Type 0} → List W → Option (List ℕ) → Option (List ℕ) → ℕ → ℕ → List ℕ → Type 0
-IsCausedBy words left left' faults faults' line =
-    ((words ≢ []) × (line ≡ usage_line)) ⊎ ((Rose faults faults' × (line ≡ read_line)) ⊎ IsRefusedBy left left' line)
+abbrev pub IsCausedBy : {W : Type 0} → List W → Stream → Stream → List ℕ → Type 0
+IsCausedBy words source source' line =
+    ((words ≢ []) × (line ≡ usage_line)) ⊎ ((Rose source source' × (line ≡ read_line)) ⊎ IsRefusedBy source source' line)
 
 -- the bytes that a source tells are in the slice
 abbrev pub TellsSlice : Option (List ℕ) → Type 0
@@ -83,15 +85,18 @@ abbrev pub TellsOther : Option (List ℕ) → Type 0
 TellsOther None = ⊥
 TellsOther (Some b) = InSlice b → ⊥
 
--- a fault of writing once a text was read: a part of what is printed for it is out, or its line is on the stream of errors in part
-abbrev pub AnswerFault : List ℕ → Option (List ℕ) → Option (List ℕ) → Option (List ℕ) → Option (List ℕ) → ℕ → ℕ → ℕ → ℕ → Type 0
-AnswerFault b held held' errs errs' outs outs' faults faults' =
-    (Rose outs outs' × ((text : List ℕ) × IsAnnotated b text × AppendsPart held held' text) × HasLine errs errs' write_line)
-    ⊎ (Rose faults faults' × (held' ≡ held) × (InSlice b → ⊥) × AppendsPart errs errs' slice_line)
+-- ---- the status WriteFault
 
--- the status WriteFault: a part of what is printed is out, or nothing is, and a part of the line of another cause is on the stream of errors
-abbrev pub FailsToWrite : {W : Type 0} → List W → Option (List ℕ) → Option (List ℕ) → ℕ → ℕ → Option (List ℕ) → Option (List ℕ) →
-    Option (List ℕ) → Option (List ℕ) → ℕ → ℕ → ℕ → ℕ → Type 0
-FailsToWrite words left left' reads reads' held held' errs errs' outs outs' faults faults' =
-    (Rose outs outs' × PrintsPart left left' held held' × HasLine errs errs' write_line)
-    ⊎ (Rose faults faults' × (held' ≡ held) × ((line : List ℕ) × IsCausedBy words left left' reads reads' line × AppendsPart errs errs' line))
+-- the output's count of faults rose, a text that was to be printed is out in part, and the line of that is said
+abbrev pub FailsToPrint : (List ℕ → Type 0) → Stream → Stream → Stream → Stream → Type 0
+FailsToPrint IsText out out' errs errs' = Rose out out' × ((text : List ℕ) × IsText text × WrotePart out out' text) × Says errs errs' write_line
+
+-- the line of another cause broke off
+abbrev pub FailsToSay : (List ℕ → Type 0) → Stream → Stream → Type 0
+FailsToSay IsLine errs errs' = (line : List ℕ) × IsLine line × BreaksOff errs errs' line
+
+-- ---- words that are refused
+
+-- what is answered to them
+abbrev pub IsOfWords : Status → Type 0
+IsOfWords answered = (answered ≡ status.Usage) ⊎ ((answered ≡ status.WriteFault) ⊎ (answered ≡ status.NoMemory))

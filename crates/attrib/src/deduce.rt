@@ -11,7 +11,7 @@ ghost use Rattle.slice_text.specs.Places.{mentions};
 ghost use Rattle.slice_module.specs.Module.{calls_of, entities_of, Accepted};
 ghost use Rattle.slice_module.specs.Tables.{resolved};
 ghost use Rattle.slice_facts.specs.Facts.{held_in};
-ghost use Rattle.positions.specs.Facts.{IsGreatest};
+ghost use Rattle.facts.specs.Justified.{IsGreatest};
 ghost use Rattle.attrib.specs.Deduced as spec;
 
 use attr_ids::{NoMemory, PosId, Sequence, WordList};

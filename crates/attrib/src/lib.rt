@@ -6,11 +6,7 @@
 
 mod annotation;
 mod deduce;
-#[cfg(test)]
-mod meeting;
 mod run;
-#[cfg(test)]
-mod tests;
 
 pub use annotation::{Annotated, Emit, Limit, Refusal, annotate, one_annotation};
 pub use run::attrib;

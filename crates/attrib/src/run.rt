@@ -1,7 +1,6 @@
 ghost use Rattle.std.specs.Prelude.{◌≡◌, ◌≢◌, ◌⊎◌, ◌<◌, ◌≤◌, [], ℕ, List, length};
-ghost use Rattle.std.specs.Io.KnownBytes.{Appends};
-ghost use Rattle.attr_io.specs.Outside.{Rose};
-ghost use Rattle.attr_io.specs.Transfer.{AppendsPart, GaveAtMost};
+ghost use Rattle.attr_io.specs.Outside.{Rose, Wrote};
+ghost use Rattle.attr_io.specs.Transfer.{GaveAtMost, WrotePart};
 ghost use Rattle.attrib.specs.Annotated.{InSlice, IsAnnotated};
 ghost use Rattle.attrib.specs.Run as spec;
 
@@ -11,8 +10,7 @@ use attr_io::{Gate, ReadStop, Sink, Source, WriteEnd, read_all, write_all};
 use std::alloc::Global;
 use std::thread::Threads;
 
-const USAGE: &[u8] =
-    b"usage: attrib [--workers N] [--emit module|list|summary|run|why] [--generate N]\n";
+const USAGE: &[u8] = b"usage: attrib\n";
 
 /// How many workers there are where the command does not say.
 const WORKERS: u8 = 4;
@@ -20,8 +18,8 @@ const WORKERS: u8 = 4;
 /// Writes the line of a status, and answers the status; where the line can't be written, a fault of
 /// writing, except that a want of memory stays what it is.
 fn end_with<E: Sink>(errs: &mut E, line: &[u8], status: Status) -> Status
-    ensures ends { spec.EndsWith status line.now result (E.held errs.old) (E.held errs.new) (E.faults errs.old) (E.faults errs.new) }
-    ensures complete { ¬ Rose (E.faults errs.old) (E.faults errs.new) → result ≡ status }
+    ensures ends { spec.EndsWith status line.now result (E.stream errs.old) (E.stream errs.new) }
+    ensures complete { ¬ Rose (E.stream errs.old) (E.stream errs.new) → result ≡ status }
 {
     match write_all(errs, line) {
         WriteEnd::Done => status,
@@ -34,9 +32,9 @@ fn end_with<E: Sink>(errs: &mut E, line: &[u8], status: Status) -> Status
 
 /// Says why reading stopped.
 fn end_reading<E: Sink>(errs: &mut E, stop: ReadStop) -> Status
-    ensures failed { stop ≡ ReadStop.Failed → spec.EndsWith Status.ReadFault spec.read_line result (E.held errs.old) (E.held errs.new) (E.faults errs.old) (E.faults errs.new) }
-    ensures large { stop ≡ ReadStop.TooLarge → spec.EndsWith Status.Refused spec.bytes_line result (E.held errs.old) (E.held errs.new) (E.faults errs.old) (E.faults errs.new) }
-    ensures memory { stop ≡ ReadStop.NoMemory → spec.EndsWith Status.NoMemory spec.memory_line result (E.held errs.old) (E.held errs.new) (E.faults errs.old) (E.faults errs.new) }
+    ensures failed { stop ≡ ReadStop.Failed → spec.EndsWith Status.ReadFault spec.read_line result (E.stream errs.old) (E.stream errs.new) }
+    ensures large { stop ≡ ReadStop.TooLarge → spec.EndsWith Status.Refused spec.bytes_line result (E.stream errs.old) (E.stream errs.new) }
+    ensures memory { stop ≡ ReadStop.NoMemory → spec.EndsWith Status.NoMemory spec.memory_line result (E.stream errs.old) (E.stream errs.new) }
 {
     match stop {
         ReadStop::Failed => end_with(errs, b"attrib: read failed\n", Status::ReadFault),
@@ -51,9 +49,9 @@ fn end_reading<E: Sink>(errs: &mut E, stop: ReadStop) -> Status
 
 /// Writes the annotated text.
 fn print<O: Sink, E: Sink>(out: &mut O, errs: &mut E, text: &[u8]) -> Status
-    ensures done { result ≡ Status.Done → Appends (O.held out.old) (O.held out.new) text.now × (E.held errs.new ≡ E.held errs.old) }
-    ensures fault { result ≢ Status.Done → (result ≡ Status.WriteFault) × Rose (O.faults out.old) (O.faults out.new)
-        × AppendsPart (O.held out.old) (O.held out.new) text.now × spec.HasLine (E.held errs.old) (E.held errs.new) spec.write_line }
+    ensures done { result ≡ Status.Done → Wrote (O.stream out.old) (O.stream out.new) text.now × (errs.new ≡ errs.old) }
+    ensures fault { result ≢ Status.Done → (result ≡ Status.WriteFault) × Rose (O.stream out.old) (O.stream out.new)
+        × WrotePart (O.stream out.old) (O.stream out.new) text.now × spec.Says (E.stream errs.old) (E.stream errs.new) spec.write_line }
 {
     match write_all(out, text) {
         WriteEnd::Done => Status::Done,
@@ -71,16 +69,17 @@ fn answer<R: Threads + Sync, O: Sink, E: Sink, G: Gate + Sync>(
     gate: &G,
 ) -> Status
     requires { length text.now ≤ 67108864 }
-    ensures done { result ≡ Status.Done → ((bytes : List ℕ) × IsAnnotated text.now bytes × Appends (O.held out.old) (O.held out.new) bytes)
-        × (E.held errs.new ≡ E.held errs.old) }
-    ensures untouched { result ≢ Status.Done → result ≢ Status.WriteFault → O.held out.new ≡ O.held out.old }
-    ensures refused { result ≡ Status.Refused → (InSlice text.now → ⊥) × Appends (E.held errs.old) (E.held errs.new) spec.slice_line }
-    ensures memory { result ≡ Status.NoMemory → spec.HasLine (E.held errs.old) (E.held errs.new) spec.memory_line }
-    ensures fault { result ≡ Status.WriteFault → spec.AnswerFault text.now (O.held out.old) (O.held out.new) (E.held errs.old) (E.held errs.new)
-        (O.faults out.old) (O.faults out.new) (E.faults errs.old) (E.faults errs.new) }
+    ensures done { result ≡ Status.Done → ((bytes : List ℕ) × IsAnnotated text.now bytes × Wrote (O.stream out.old) (O.stream out.new) bytes)
+        × (errs.new ≡ errs.old) }
+    ensures untouched { result ≢ Status.Done → result ≢ Status.WriteFault → out.new ≡ out.old }
+    ensures refused { result ≡ Status.Refused → (InSlice text.now → ⊥) × Wrote (E.stream errs.old) (E.stream errs.new) spec.slice_line }
+    ensures memory { result ≡ Status.NoMemory → spec.Says (E.stream errs.old) (E.stream errs.new) spec.memory_line }
+    ensures fault { result ≡ Status.WriteFault
+        → spec.FailsToPrint (IsAnnotated text.now) (O.stream out.old) (O.stream out.new) (E.stream errs.old) (E.stream errs.new)
+        ⊎ ((out.new ≡ out.old) × spec.FailsToSay (λ line. (InSlice text.now → ⊥) × (line ≡ spec.slice_line)) (E.stream errs.old) (E.stream errs.new)) }
     ensures others { (result ≢ Status.Usage) × (result ≢ Status.ReadFault) }
-    ensures accepted { InSlice text.now → ¬ Rose (O.faults out.old) (O.faults out.new) → (result ≡ Status.Done) ⊎ (result ≡ Status.NoMemory) }
-    ensures outside { (InSlice text.now → ⊥) → ¬ Rose (E.faults errs.old) (E.faults errs.new) → (result ≡ Status.Refused) ⊎ (result ≡ Status.NoMemory) }
+    ensures accepted { InSlice text.now → ¬ Rose (O.stream out.old) (O.stream out.new) → (result ≡ Status.Done) ⊎ (result ≡ Status.NoMemory) }
+    ensures outside { (InSlice text.now → ⊥) → ¬ Rose (E.stream errs.old) (E.stream errs.new) → (result ≡ Status.Refused) ⊎ (result ≡ Status.NoMemory) }
 {
     match annotate(rt, alloc, text, WORKERS, Emit::Module, gate) {
         Ok(annotated) => print(out, errs, annotated.bytes.as_slice()),
@@ -103,28 +102,31 @@ pub fn attrib<R: Threads + Sync, S: Source, O: Sink, E: Sink, G: Gate + Sync>(
     gate: &G,
 ) -> Status
     // What each status says was read, written and told.
-    ensures done { result ≡ Status.Done → spec.Prints (S.left source.old) (S.left source.new) (O.held out.old) (O.held out.new)
-        × (E.held errs.new ≡ E.held errs.old) }
-    ensures untouched { result ≢ Status.Done → result ≢ Status.WriteFault → O.held out.new ≡ O.held out.old }
-    ensures usage { result ≡ Status.Usage → (words.now ≢ []) × (S.left source.new ≡ S.left source.old)
-        × Appends (E.held errs.old) (E.held errs.new) spec.usage_line }
-    ensures read_fault { result ≡ Status.ReadFault → Rose (S.faults source.old) (S.faults source.new)
-        × Appends (E.held errs.old) (E.held errs.new) spec.read_line }
-    ensures refused { result ≡ Status.Refused → (line : List ℕ) × spec.IsRefusedBy (S.left source.old) (S.left source.new) line
-        × Appends (E.held errs.old) (E.held errs.new) line }
-    ensures write_fault { result ≡ Status.WriteFault → spec.FailsToWrite words.now (S.left source.old) (S.left source.new) (S.faults source.old) (S.faults source.new)
-        (O.held out.old) (O.held out.new) (E.held errs.old) (E.held errs.new) (O.faults out.old) (O.faults out.new) (E.faults errs.old) (E.faults errs.new) }
-    ensures no_memory { result ≡ Status.NoMemory → spec.HasLine (E.held errs.old) (E.held errs.new) spec.memory_line }
+    ensures done { result ≡ Status.Done → spec.Prints (S.stream source.old) (S.stream source.new) (O.stream out.old) (O.stream out.new)
+        × (errs.new ≡ errs.old) }
+    ensures untouched { result ≢ Status.Done → result ≢ Status.WriteFault → out.new ≡ out.old }
+    ensures usage { result ≡ Status.Usage → (words.now ≢ []) × Wrote (E.stream errs.old) (E.stream errs.new) spec.usage_line }
+    ensures read_fault { result ≡ Status.ReadFault → Rose (S.stream source.old) (S.stream source.new)
+        × Wrote (E.stream errs.old) (E.stream errs.new) spec.read_line }
+    ensures refused { result ≡ Status.Refused → (line : List ℕ) × spec.IsRefusedBy (S.stream source.old) (S.stream source.new) line
+        × Wrote (E.stream errs.old) (E.stream errs.new) line }
+    ensures write_fault { result ≡ Status.WriteFault
+        → spec.FailsToPrint (spec.IsPrinted (S.stream source.old) (S.stream source.new)) (O.stream out.old) (O.stream out.new)
+        (E.stream errs.old) (E.stream errs.new)
+        ⊎ ((out.new ≡ out.old) × spec.FailsToSay (spec.IsCausedBy words.now (S.stream source.old) (S.stream source.new))
+        (E.stream errs.old) (E.stream errs.new)) }
+    ensures no_memory { result ≡ Status.NoMemory → spec.Says (E.stream errs.old) (E.stream errs.new) spec.memory_line }
 
-    // At most one byte more is taken than a text may have.
-    ensures reads { GaveAtMost (S.left source.old) (S.left source.new) 67108865 }
+    // At most one byte more is taken than a text may have; where words are refused, nothing is read or printed.
+    ensures reads { GaveAtMost (S.stream source.old) (S.stream source.new) 67108865 }
+    ensures unread { words.now ≢ [] → (source.new ≡ source.old) × (out.new ≡ out.old) × spec.IsOfWords result }
 
     // Which status comes where no fault does.
-    ensures asked { words.now ≢ [] → ¬ Rose (E.faults errs.old) (E.faults errs.new) → result ≡ Status.Usage }
-    ensures accepted { words.now ≡ [] → spec.TellsSlice (S.left source.old) → ¬ Rose (S.faults source.old) (S.faults source.new)
-        → ¬ Rose (O.faults out.old) (O.faults out.new) → (result ≡ Status.Done) ⊎ (result ≡ Status.NoMemory) }
-    ensures outside { words.now ≡ [] → spec.TellsOther (S.left source.old) → ¬ Rose (S.faults source.old) (S.faults source.new)
-        → ¬ Rose (E.faults errs.old) (E.faults errs.new) → (result ≡ Status.Refused) ⊎ (result ≡ Status.NoMemory) }
+    ensures asked { words.now ≢ [] → ¬ Rose (E.stream errs.old) (E.stream errs.new) → result ≡ Status.Usage }
+    ensures accepted { words.now ≡ [] → spec.TellsSlice (S.stream source.old).bytes → ¬ Rose (S.stream source.old) (S.stream source.new)
+        → ¬ Rose (O.stream out.old) (O.stream out.new) → (result ≡ Status.Done) ⊎ (result ≡ Status.NoMemory) }
+    ensures outside { words.now ≡ [] → spec.TellsOther (S.stream source.old).bytes → ¬ Rose (S.stream source.old) (S.stream source.new)
+        → ¬ Rose (E.stream errs.old) (E.stream errs.new) → (result ≡ Status.Refused) ⊎ (result ≡ Status.NoMemory) }
 {
     if !words.is_empty() {
         return end_with(errs, USAGE, Status::Usage);

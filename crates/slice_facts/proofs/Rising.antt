@@ -1,5 +1,6 @@
 -- The offsets of what is added rise with the closing parentheses of the text.
-use Rattle.std.proofs.Common.{◌≡◌, ℕ, zero, suc, ◌+◌, ◌<◌, ◌≤◌, ◌⊎◌, Bool, true, false, not, ◌&&◌, List, [], ◌∷◌, ◌++◌, length, map, get_or, All, refl, sym, ap, subst, arith, inl, inr, Option, None, Some, if◌then◌else◌}
+use Rattle.std.proofs.Common.{◌≡◌, ℕ, zero, suc, ◌+◌, ◌<◌, ◌≤◌, ◌⊎◌, Bool, true, false, not, ◌&&◌, List, [], ◌∷◌, ◌++◌, length, map, get_or, All, refl}
+use Rattle.std.proofs.Common.{sym, ap, subst, arith, inl, inr, Option, None, Some, if◌then◌else◌}
 use Rattle.std.specs.Option.{is_some}
 use Rattle.std.specs.Prelude.{codes}
 use Rattle.std.specs.List.{flat_map}
@@ -52,10 +53,11 @@ abbrev afters : List Mention → List ℕ
 afters ms = map (λ m. m.after) ms
 
 word_sub : (p : Place) (m : Mention) (h : Bool) → Sub (offsets (word_at p m h)) (m.after ∷ [])
-word_sub p m h = elim (h && not m.nounwind) as (λ v. Sub (offsets (if v then record { at = m.after; place = p; words = codes "nounwind" } ∷ [] else [])) (m.after ∷ [])) [
-  | true ↦ inr ([], refl, refl)
-  | false ↦ inl refl
-]
+word_sub p m h = elim (h && not m.nounwind) as (λ v.
+    Sub (offsets (if v then record { at = m.after; place = p; words = codes "nounwind" } ∷ [] else [])) (m.after ∷ [])) [
+      | true ↦ inr ([], refl, refl)
+      | false ↦ inl refl
+    ]
 
 calls_sub : (m : Module) (held : ℕ → Bool) (cs : List Call) → Sub (offsets (flat_map (call_words m held) cs)) (afters (map (λ c. c.mention) cs))
 calls_sub m held [] = refl
@@ -72,8 +74,10 @@ body_sub m held (Some b) = calls_sub m held b.calls
 func_sub : (m : Module) (held : ℕ → Bool) (f : ℕ) (func : Func) →
     Sub (offsets (header_words held f func ++ flat_map (call_words m held) (calls_of func))) (afters (mentions (entity_of func)))
 func_sub m held f func =
-    subst (λ xs. Sub xs (afters (mentions (entity_of func)))) (sym (map-append (λ x. x.at) (header_words held f func) (flat_map (call_words m held) (calls_of func))))
-    (sub_append (offsets (header_words held f func)) (offsets (flat_map (call_words m held) (calls_of func))) (func.header.after ∷ []) (afters (written_calls (written_body func.body)))
+    subst (λ xs. Sub xs (afters (mentions (entity_of func))))
+    (sym (map-append (λ x. x.at) (header_words held f func) (flat_map (call_words m held) (calls_of func))))
+    (sub_append (offsets (header_words held f func)) (offsets (flat_map (call_words m held) (calls_of func)))
+    (func.header.after ∷ []) (afters (written_calls (written_body func.body)))
     (word_sub place.Function func.header (is_some func.body && held f)) (body_sub m held func.body))
 
 funcs_sub : (m : Module) (held : ℕ → Bool) (f : ℕ) (fs : List Func) → Sub (offsets (words_from m held f fs)) (afters (flat_map mentions (map entity_of fs)))
@@ -81,7 +85,8 @@ funcs_sub m held f [] = refl
 funcs_sub m held f (func ∷ fs) =
     let here = header_words held f func ++ flat_map (call_words m held) (calls_of func) in
     subst (λ xs. Sub xs (afters (flat_map mentions (map entity_of (func ∷ fs))))) (sym (map-append (λ x. x.at) here (words_from m held (f + 1) fs)))
-    (subst (Sub (offsets here ++ offsets (words_from m held (f + 1) fs))) (sym (map-append (λ m. m.after) (mentions (entity_of func)) (flat_map mentions (map entity_of fs))))
+    (subst (Sub (offsets here ++ offsets (words_from m held (f + 1) fs)))
+    (sym (map-append (λ m. m.after) (mentions (entity_of func)) (flat_map mentions (map entity_of fs))))
     (sub_append (offsets here) (offsets (words_from m held (f + 1) fs)) (afters (mentions (entity_of func))) (afters (flat_map mentions (map entity_of fs)))
     (func_sub m held f func) (funcs_sub m held (f + 1) fs)))
 

@@ -45,7 +45,13 @@ written_long h (Some b) =
 entities_long : (es : List Entity) → 4 * length (flat_map mentions es) ≤ length (flat_map entity_leaves es)
 entities_long [] = omega arith
 entities_long (e ∷ es) =
-    omega (arith, written_long e.header e.body, entities_long es, length-append (entity_leaves e) (flat_map entity_leaves es), length-append (mentions e) (flat_map mentions es))
+    omega (
+      arith,
+      written_long e.header e.body,
+      entities_long es,
+      length-append (entity_leaves e) (flat_map entity_leaves es),
+      length-append (mentions e) (flat_map mentions es),
+    )
 
 pub few_mentions : (b : List ℕ) (es : List Entity) → Reads b es → 4 * length (flat_map mentions es) ≤ length b
 few_mentions b es r =
@@ -58,7 +64,13 @@ entries_long b i (f ∷ fs) = ap suc (entries_long b (i + block_count_of f.body)
 
 pub few_runs : (n k : ℕ) (fs : List Func) → length (runs_from n k fs) ≤ length fs
 few_runs n k [] = omega arith
-few_runs n k (f ∷ fs) = omega (arith, length-append (runs_of n k f.body) (runs_from (n + 1) (k + seg_count_of f.body) fs), one f.body, few_runs (n + 1) (k + seg_count_of f.body) fs)
+few_runs n k (f ∷ fs) =
+    omega (
+      arith,
+      length-append (runs_of n k f.body) (runs_from (n + 1) (k + seg_count_of f.body) fs),
+      one f.body,
+      few_runs (n + 1) (k + seg_count_of f.body) fs,
+    )
   where
     one : (body : Option Block) → length (runs_of n k body) ≤ 1
     one None = omega arith

@@ -1,5 +1,6 @@
 -- The resolved module of a text of the slice is well formed.
-use Rattle.std.proofs.Common.{◌≡◌, ℕ, zero, suc, ◌+◌, ◌-◌, ◌<◌, ◌≤◌, ◌^◌, ◌⊎◌, inl, inr, List, [], ◌∷◌, length, slice_get, Option, None, Some, refl, sym, ap, subst, ◌∙◌, arith, All}
+use Rattle.std.proofs.Common.{◌≡◌, ℕ, zero, suc, ◌+◌, ◌-◌, ◌<◌, ◌≤◌, ◌^◌, ◌⊎◌, inl, inr, List, [], ◌∷◌, length, slice_get, Option, None, Some, refl, sym}
+use Rattle.std.proofs.Common.{ap, subst, ◌∙◌, arith, All}
 use Rattle.std.specs.Option.{option_map}
 use Rattle.std.proofs.lemmas.List.{length-map}
 use Rattle.std.proofs.lemmas.Option.{slice_get_within, get_or_from_slice_get}
@@ -12,14 +13,16 @@ use Rattle.ir_module.specs.declared.module.Seg.{Seg}
 use Rattle.ir_module.specs.declared.module.Block.{Block as Run}
 use Rattle.ir_module.specs.declared.module.Func.{Func as Entry}
 use Rattle.ir_module.specs.Operands.{operands}
-use Rattle.ir_module.specs.Formed.{IsBlockOf, IsSegOf, IsPlaced, IsType, IsOperandIn, IsInstrIn, IsHeader, HasResult, IsPartIn, HasFew, IsWellFormed}
+use Rattle.ir_module.specs.Formed.{IsBlockOf, IsSegOf, IsPlaced, IsType, IsOperandIn, IsInstrIn}
+use Rattle.ir_module.specs.WellFormed.{HasResult, IsTypeFormed, IsFuncFormed, IsBlockFormed, IsSegFormed, HasFew, IsWellFormed}
 use Rattle.slice_module.specs.declared.module.Call.{Call}
 use Rattle.slice_module.specs.declared.module.Block.{Block}
 use Rattle.slice_module.specs.declared.module.Func.{Func}
 use Rattle.slice_module.specs.declared.module.Module.{Module}
 use Rattle.slice_module.specs.Module.{Accepted, calls_of, block_calls, entities_of, entity_of, NamesCallee}
 use Rattle.slice_module.specs.Names.{names_of, name_of}
-use Rattle.slice_module.specs.Tables.{void, callee_at, call_instr, ret_instr, segment, block_count_of, entry_at, run_of, block_segs, entries_from, runs_from, segs_from, resolved}
+use Rattle.slice_module.specs.Tables.{void, callee_at, call_instr, ret_instr, segment, block_count_of, entry_at, run_of, block_segs, entries_from}
+use Rattle.slice_module.specs.Tables.{runs_from, segs_from, resolved}
 use Rattle.slice_module.proofs.Single.{mentions_length}
 use Rattle.slice_module.proofs.Counting.{few_mentions, entries_long, few_runs, few_segs}
 use Rattle.slice_module.proofs.Tables.{block_at, seg_at, entry_of_func, run_of_func, seg_of_func, Located, located, LocatedRun, located_run, runs_follow, shape}
@@ -49,7 +52,8 @@ block_in fs f i j g (Some b) is body at low high =
 
 module _ (m : Module) where
   -- the block at a place is that of the function found there
-  run_at : (i : ℕ) (run : Run) → slice_get (runs_from 0 0 m.funcs) i ≡ Some run → (at : LocatedRun 0 m.funcs i) × (run ≡ run_of (0 + at.f) (seg_at 0 m.funcs at.f) at.b)
+  run_at : (i : ℕ) (run : Run) → slice_get (runs_from 0 0 m.funcs) i ≡ Some run →
+      (at : LocatedRun 0 m.funcs i) × (run ≡ run_of (0 + at.f) (seg_at 0 m.funcs at.f) at.b)
   run_at i run e =
       let at = located_run 0 0 0 m.funcs i run e in
       (at, some_is (sym e ∙ run_of_func 0 0 0 m.funcs at.f i at.g at.b at.is at.body at.place))
@@ -79,7 +83,8 @@ module _ (m : Module) where
       ]
 
   -- the block of a segment
-  pub block_there : (at : ℕ) (seg : Seg) (t : There at seg) → slice_get (runs_from 0 0 m.funcs) seg.block.0 ≡ Some (run_of (0 + t.place.f) (seg_at 0 m.funcs t.place.f) t.place.b)
+  pub block_there : (at : ℕ) (seg : Seg) (t : There at seg) →
+      slice_get (runs_from 0 0 m.funcs) seg.block.0 ≡ Some (run_of (0 + t.place.f) (seg_at 0 m.funcs t.place.f) t.place.b)
   block_there at seg t =
       let l = t.place in
       let number : seg.block.0 ≡ block_at 0 m.funcs l.f = ap (λ (s : Seg). s.block.0) t.is in
@@ -97,7 +102,8 @@ module _ (m : Module) where
   one_long at seg t = ap (λ (s : Seg). length s.instrs) t.is
 
   -- it ends the segment as it should
-  placed_as : (at : ℕ) (seg : Seg) (t : There at seg) (run : Run) → run ≡ run_of (0 + t.place.f) (seg_at 0 m.funcs t.place.f) t.place.b → IsPlaced run at 1 0 t.does.op
+  placed_as : (at : ℕ) (seg : Seg) (t : There at seg) (run : Run) → run ≡ run_of (0 + t.place.f) (seg_at 0 m.funcs t.place.f) t.place.b →
+      IsPlaced run at 1 0 t.does.op
   placed_as at seg t run is = elim t.kind [
     | inl call ↦
         let more : t.place.j < length t.place.b.calls = slice_get_within t.place.b.calls t.place.j call.0 call.1 in
@@ -113,7 +119,8 @@ module _ (m : Module) where
       slice_get block.calls j ≡ Some c → c.callee.0 < length m.funcs
   callee_within b is f j g block c at body call =
       let in_func = all_at (λ (f : Func). All (NamesCallee b (names_of b (entities_of m))) (calls_of f)) m.funcs f g at is.callees in
-      let mine : All (NamesCallee b (names_of b (entities_of m))) block.calls = subst (λ v. All (NamesCallee b (names_of b (entities_of m))) (block_calls v)) body in_func in
+      let mine : All (NamesCallee b (names_of b (entities_of m))) block.calls =
+      subst (λ v. All (NamesCallee b (names_of b (entities_of m))) (block_calls v)) body in_func in
       let named = all_at (NamesCallee b (names_of b (entities_of m))) block.calls j c call mine in
       let within = slice_get_within (names_of b (entities_of m)) c.callee.0 (name_of b c.mention) named in
       omega (arith, within, length-map (entities_of m) (λ e. name_of b e.header), length-map m.funcs entity_of)
@@ -121,10 +128,13 @@ module _ (m : Module) where
   -- ---- what instructions name is there
   call_in : (b : List ℕ) (f : ℕ) (c : Call) → c.callee.0 < length m.funcs → IsInstrIn (resolved b m) f (call_instr c)
   unfolding resolved
-  call_in b f c within = record { ty = omega arith; names = names; targets = λ k e at. absurd (cc); arms = λ k i at. absurd (cc); types = types; args = (refl, refl) }
+  call_in b f c within =
+      record { ty = omega arith; names = names; targets = λ k e at. absurd (cc); arms = λ k i at. absurd (cc); types = types; args = (refl, refl) }
     where
       names : (k : ℕ) (w : Written) → slice_get (callee_at c ∷ []) k ≡ Some w → IsType (resolved b m) w.ty × IsOperandIn (resolved b m) f w.val
-      names zero w e = subst (λ (w : Written). IsType (resolved b m) w.ty × IsOperandIn (resolved b m) f w.val) (some_is e) (omega arith, omega (arith, within, entries_long b 0 m.funcs))
+      names zero w e =
+          subst (λ (w : Written). IsType (resolved b m) w.ty × IsOperandIn (resolved b m) f w.val) (some_is e)
+          (omega arith, omega (arith, within, entries_long b 0 m.funcs))
       names (suc k) w e = absurd (cc)
 
       types : (k : ℕ) (t : TypeId) → slice_get (void ∷ []) k ≡ Some t → IsType (resolved b m) t
@@ -133,7 +143,15 @@ module _ (m : Module) where
 
   ret_in : (b : List ℕ) (f : ℕ) → IsInstrIn (resolved b m) f ret_instr
   unfolding resolved
-  ret_in b f = record { ty = omega arith; names = λ k w at. absurd (cc); targets = λ k e at. absurd (cc); arms = λ k i at. absurd (cc); types = λ k t at. absurd (cc); args = tt }
+  ret_in b f =
+      record {
+        ty = omega arith;
+        names = λ k w at. absurd (cc);
+        targets = λ k e at. absurd (cc);
+        arms = λ k i at. absurd (cc);
+        types = λ k t at. absurd (cc);
+        args = tt;
+      }
 
   instr_in : (b : List ℕ) → Accepted b m → (k f : ℕ) (seg : Seg) (t : There k seg) → IsInstrIn (resolved b m) f t.does
   instr_in b is k f seg t = elim t.kind [
@@ -155,16 +173,22 @@ module _ (m : Module) where
     | inr ret ↦ subst (λ (x : Instr). length (operands x.op) < 2 ^ 31) (sym ret.1) (omega arith)
   ]
 
-  -- ---- headers, types and counts
-  header_is : (b : List ℕ) (f : ℕ) (entry : Entry) → slice_get (entries_from b 0 m.funcs) f ≡ Some entry → IsHeader (resolved b m) f entry
+  -- ---- functions, types and counts
+  func_is : (b : List ℕ) (f : ℕ) (entry : Entry) → slice_get (entries_from b 0 m.funcs) f ≡ Some entry → IsFuncFormed (resolved b m) f entry
   unfolding resolved
-  header_is b f entry e =
+  func_is b f entry e =
       let found = entry_is b m.funcs f entry e in
-      subst (IsHeader (resolved b m) f) (sym found.2) (record { ret = omega arith; extra = λ k w at. absurd (cc); few = omega arith; params = λ k p at. absurd (cc) })
+      subst (IsFuncFormed (resolved b m) f) (sym found.2) (record {
+        ret = omega arith;
+        extra = λ k w at. absurd (cc);
+        few = omega arith;
+        params = λ k p at. absurd (cc);
+        blocks = λ i in_it. block_in m.funcs f i (block_at 0 m.funcs f) found.0 found.0.body found.1 refl refl in_it.0 in_it.1;
+      })
 
-  no_parts : (b : List ℕ) (t : ℕ) (type : IrType) → slice_get (Void ∷ Ptr ∷ []) t ≡ Some type → IsPartIn (resolved b m) type
-  no_parts b zero type e = subst (IsPartIn (resolved b m)) (some_is e) (λ part has. absurd (let none : None ≡ Some part = has.1 in cc))
-  no_parts b (suc zero) type e = subst (IsPartIn (resolved b m)) (some_is e) (λ part has. absurd (let none : None ≡ Some part = has.1 in cc))
+  no_parts : (b : List ℕ) (t : ℕ) (type : IrType) → slice_get (Void ∷ Ptr ∷ []) t ≡ Some type → IsTypeFormed (resolved b m) t type
+  no_parts b zero type e = subst (IsTypeFormed (resolved b m) 0) (some_is e) (λ part has. absurd (let none : None ≡ Some part = has.1 in cc))
+  no_parts b (suc zero) type e = subst (IsTypeFormed (resolved b m) 1) (some_is e) (λ part has. absurd (let none : None ≡ Some part = has.1 in cc))
   no_parts b (suc (suc t)) type e = absurd (cc)
 
   has_few : (b : List ℕ) → length b < 2 ^ 31 → Accepted b m → HasFew (resolved b m)
@@ -174,50 +198,57 @@ module _ (m : Module) where
       let funcs = mentions_length (entities_of m) in
       let long = length-map m.funcs entity_of in
       record {
+        types = omega arith;
         globals = omega arith;
         funcs = omega (arith, entries_long b 0 m.funcs, long, funcs, mentioned, small);
         blocks = omega (arith, few_runs 0 0 m.funcs, long, funcs, mentioned, small);
         segs = omega (arith, few_segs 0 m.funcs, mentioned, small);
         values = omega arith;
         parts = omega arith;
-        instrs = λ k seg at. omega (arith, one_long k seg (there k seg at));
-        operands = λ k i seg instr at found.
-            let t = there k seg at in
-            subst (λ (x : Instr). length (operands x.op) < 2 ^ 31) (sym (one_instr k i seg instr t found).1) (few_operands k seg t);
+        each = λ k seg at. (
+          omega (arith, one_long k seg (there k seg at)),
+          λ i instr found.
+              let t = there k seg at in
+              subst (λ (x : Instr). length (operands x.op) < 2 ^ 31) (sym (one_instr k i seg instr t found).1) (few_operands k seg t),
+        );
       }
 
-  pub formed : (b : List ℕ) → length b < 2 ^ 31 → Accepted b m → IsWellFormed (resolved b m)
+  -- ---- blocks and segments
+  seg_is : (b : List ℕ) → Accepted b m → (k : ℕ) (seg : Seg) → There k seg → IsSegFormed (resolved b m) k seg
   unfolding resolved
-  formed b small is = record {
-    blocks = λ f i func at in_it.
-        let entry = entry_is b m.funcs f func at in
-        let first : func.first_block ≡ block_at 0 m.funcs f = ap (λ (x : Entry). x.first_block) entry.2 in
-        let count : func.block_count ≡ block_count_of entry.0.body = ap (λ (x : Entry). x.block_count) entry.2 in
-        block_in m.funcs f i func.first_block entry.0 entry.0.body entry.1 refl first in_it.0 (omega (arith, in_it.1, count));
-    homes = λ i run at. let r = run_at i run at in home i run r.0 r.1;
-    filled = λ i run at. let r = run_at i run at in subst (λ (x : Run). 0 < x.seg_count) (sym r.1) (omega arith);
-    segs = λ i k run at in_it. seg_in i k run (run_at i run at) in_it;
-    places = λ k seg at. let t = there k seg at in
-        (run_of (0 + t.place.f) (seg_at 0 m.funcs t.place.f) t.place.b, block_there k seg t, (omega (arith, t.place.place), omega (arith, t.place.place, t.place.within)));
-    order = λ i run next at more. runs_follow 0 0 m.funcs i run next at more;
-    nonempty = λ k seg at. omega (arith, one_long k seg (there k seg at));
-    ends = λ k i seg run instr at block found.
-        let t = there k seg at in
-        let one = one_instr k i seg instr t found in
-        let same : run ≡ run_of (0 + t.place.f) (seg_at 0 m.funcs t.place.f) t.place.b = some_is (sym block ∙ block_there k seg t) in
-        moved k i seg run instr t one (placed_as k seg t run same);
-    instrs = λ k i seg run instr at block found.
-        let t = there k seg at in
-        let one = one_instr k i seg instr t found in
-        subst (λ x. IsInstrIn (resolved b m) run.func.0 x × HasResult (resolved b m) k i x) (sym one.1) (instr_in b is k run.func.0 seg t, no_result b k i seg t);
-    values = λ v info at. absurd (cc);
-    headers = λ f func at. header_is b f func at;
-    globals = λ g global at. absurd (cc);
-    parts = λ k w at. absurd (cc);
-    types = λ t type at. no_parts b t type at;
-    few = has_few b small is;
-    type_at = refl;
-  }
+  seg_is b is k seg t =
+      let run = run_of (0 + t.place.f) (seg_at 0 m.funcs t.place.f) t.place.b in (
+        run,
+        block_there k seg t,
+        record {
+          place = (omega (arith, t.place.place), omega (arith, t.place.place, t.place.within));
+          nonempty = omega (arith, one_long k seg t);
+          instrs = λ i instr found.
+              let one = one_instr k i seg instr t found in
+              record {
+                placed = moved k i seg run instr t one (placed_as k seg t run refl);
+                names = subst (IsInstrIn (resolved b m) (0 + t.place.f)) (sym one.1) (instr_in b is k (0 + t.place.f) seg t);
+                result = subst (HasResult (resolved b m) k i) (sym one.1) (no_result b k i seg t);
+              };
+        },
+      )
+    where
+      moved : (k i : ℕ) (seg : Seg) (run : Run) (instr : Instr) (t : There k seg) → (i ≡ 0) × (instr ≡ t.does) → IsPlaced run k 1 0 t.does.op →
+          IsPlaced run k (length seg.instrs) i instr.op
+      moved k i seg run instr t one placed =
+          subst (λ n. IsPlaced run k n i instr.op) (sym (one_long k seg t))
+          (subst (λ j. IsPlaced run k 1 j instr.op) (sym one.0) (subst (λ (x : Instr). IsPlaced run k 1 0 x.op) (sym one.1) placed))
+
+  block_is : (b : List ℕ) (i : ℕ) (run : Run) → slice_get (runs_from 0 0 m.funcs) i ≡ Some run → IsBlockFormed (resolved b m) i run
+  unfolding resolved
+  block_is b i run e =
+      let r = run_at i run e in
+      record {
+        home = home i run r.0 r.1;
+        filled = subst (λ (x : Run). 0 < x.seg_count) (sym r.1) (omega arith);
+        segs = λ k in_it. seg_in i k run r in_it;
+        next = λ next more. runs_follow 0 0 m.funcs i run next e more;
+      }
     where
       home : (i : ℕ) (run : Run) (at : LocatedRun 0 m.funcs i) → run ≡ run_of (0 + at.f) (seg_at 0 m.funcs at.f) at.b →
           (func : Entry) × (slice_get (entries_from b 0 m.funcs) run.func.0 ≡ Some func) × IsBlockOf func i
@@ -244,8 +275,16 @@ module _ (m : Module) where
             | inr ret ↦ (segment (block_at 0 m.funcs at.f) ret_instr, same ∙ ret.1, omega (arith, at.place))
           ]
 
-      moved : (k i : ℕ) (seg : Seg) (run : Run) (instr : Instr) (t : There k seg) → (i ≡ 0) × (instr ≡ t.does) → IsPlaced run k 1 0 t.does.op →
-          IsPlaced run k (length seg.instrs) i instr.op
-      moved k i seg run instr t one placed =
-          subst (λ n. IsPlaced run k n i instr.op) (sym (one_long k seg t))
-          (subst (λ j. IsPlaced run k 1 j instr.op) (sym one.0) (subst (λ (x : Instr). IsPlaced run k 1 0 x.op) (sym one.1) placed))
+  pub formed : (b : List ℕ) → length b < 2 ^ 31 → Accepted b m → IsWellFormed (resolved b m)
+  unfolding resolved
+  formed b small is = record {
+    few = has_few b small is;
+    type_at = refl;
+    types = λ t type at. no_parts b t type at;
+    parts = λ k w at. absurd (cc);
+    globals = λ g global at. absurd (cc);
+    funcs = λ f func at. func_is b f func at;
+    blocks = λ i run at. block_is b i run at;
+    segs = λ k seg at. seg_is b is k seg (there k seg at);
+    values = λ v info at. absurd (cc);
+  }

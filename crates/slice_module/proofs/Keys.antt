@@ -1,5 +1,6 @@
 -- The keys of a set of names, read as texts.
-use Rattle.std.proofs.Common.{◌≡◌, ℕ, zero, suc, ◌+◌, ◌<◌, Bool, true, false, not, ◌||◌, List, [], ◌∷◌, ◌++◌, length, map, take, drop, get_or, Some, refl, sym, ap, subst, ◌∙◌, arith, Bor}
+use Rattle.std.proofs.Common.{◌≡◌, ℕ, zero, suc, ◌+◌, ◌<◌, Bool, true, false, not, ◌||◌, List, [], ◌∷◌, ◌++◌, length, map, take, drop, get_or, Some, refl}
+use Rattle.std.proofs.Common.{sym, ap, subst, ◌∙◌, arith, Bor}
 use Rattle.std.specs.List.{list_any, slice_get, position}
 use Rattle.std.specs.Prelude.{if◌then◌else◌}
 use Rattle.std.specs.Str.{bytes_eq}
@@ -31,12 +32,14 @@ pub pushed_distinct : (b : List ℕ) (es : List Entity) (i : ℕ) (d : Entity) (
 pushed_distinct b es i d ks k l same distinct is none =
     let more : names_of b (take (i + 1) es) ≡ names_of b (take i es) ++ k.now ∷ [] =
     map_more (λ e. name_of b e.header) es i d l ∙ ap (λ x. names_of b (take i es) ++ x ∷ []) (sym is) in
-    let none' : list_any (bytes_eq k.now) (names_of b (take i es)) ≡ false = ap (λ xs. list_any (bytes_eq k.now) xs) (sym same) ∙ sym (any_texts k ks) ∙ none in (
+    let none' : list_any (bytes_eq k.now) (names_of b (take i es)) ≡ false =
+    ap (λ xs. list_any (bytes_eq k.now) xs) (sym same) ∙ sym (any_texts k ks) ∙ none in (
       pushed ks k none ∙ ap (λ xs. xs ++ k.now ∷ []) same ∙ sym more,
       subst AreDistinct (sym more) (distinct_push (names_of b (take i es)) k.now distinct none'),
     )
 
-split_at : (es : List Entity) (i : ℕ) (d : Entity) (b : List ℕ) → i < length es →
+-- the names before one, it, and those behind it
+pub split_at : (es : List Entity) (i : ℕ) (d : Entity) (b : List ℕ) → i < length es →
     names_of b es ≡ names_of b (take i es) ++ name_of b (get_or es i d).header ∷ names_of b (drop (suc i) es)
 split_at [] i d b l = absurd (omega arith)
 split_at (e ∷ es) zero d b l = refl
@@ -46,7 +49,8 @@ split_at (e ∷ es) (suc i) d b l = ap (λ xs. name_of b e.header ∷ xs) (split
 pub twice : (b : List ℕ) (es : List Entity) (i : ℕ) (d : Entity) (ks : List (Bor (List ℕ))) (k : Bor (List ℕ)) → i < length es →
     texts ks ≡ names_of b (take i es) → k.now ≡ name_of b (get_or es i d).header → list_any (matches k) ks ≡ true → AreDistinct (names_of b es) → ⊥
 twice b es i d ks k l same is found distinct =
-    let found' : list_any (bytes_eq k.now) (names_of b (take i es)) ≡ true = ap (λ xs. list_any (bytes_eq k.now) xs) (sym same) ∙ sym (any_texts k ks) ∙ found in
+    let found' : list_any (bytes_eq k.now) (names_of b (take i es)) ≡ true =
+    ap (λ xs. list_any (bytes_eq k.now) xs) (sym same) ∙ sym (any_texts k ks) ∙ found in
     let whole : names_of b es ≡ names_of b (take i es) ++ k.now ∷ names_of b (drop (suc i) es) =
     split_at es i d b l ∙ ap (λ x. names_of b (take i es) ++ x ∷ names_of b (drop (suc i) es)) (sym is) in
     not_distinct (names_of b (take i es)) k.now (names_of b (drop (suc i) es)) found' (subst AreDistinct whole distinct)

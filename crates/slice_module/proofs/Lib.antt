@@ -5,3 +5,4 @@ pub mod Single
 pub mod Counting
 pub mod Tables
 pub mod Formed
+pub mod Markers

@@ -70,7 +70,8 @@ one_module b m k h g =
     let callees : All (λ f. All (NamesCallee b (names_of b (entities_of m))) (calls_of f)) k.funcs =
     subst (λ es. All (λ f. All (NamesCallee b (names_of b es)) (calls_of f)) k.funcs) (sym same) g.callees in
     let P : Func → Type 0 = λ f. All (NamesCallee b (names_of b (entities_of m))) (calls_of f) in
-    let funcs = funcs_same b (names_of b (entities_of m)) h.distinct m.funcs k.funcs same (recursion_from_All P m.funcs h.callees) (recursion_from_All P k.funcs callees) in
+    let funcs = funcs_same b (names_of b (entities_of m)) h.distinct m.funcs k.funcs same
+    (recursion_from_All P m.funcs h.callees) (recursion_from_All P k.funcs callees) in
     λ i. record { funcs = funcs i }
 
 rise_length : (n low : ℕ) (xs : List ℕ) → low ≤ n → RiseWithin low n xs → low + length xs ≤ n
@@ -85,4 +86,9 @@ mentions_length (e ∷ es) = omega (arith, mentions_length es, length-append (en
 -- a text of n bytes has at most n functions
 pub at_most : (n : ℕ) (es : List Entity) → ClosesRise n es → length es ≤ n
 at_most n es r =
-    omega (arith, mentions_length es, length-map (flat_map entity_mentions es) (λ m. m.after), rise_length n 0 (map (λ m. m.after) (flat_map entity_mentions es)) (omega arith) r)
+    omega (
+      arith,
+      mentions_length es,
+      length-map (flat_map entity_mentions es) (λ m. m.after),
+      rise_length n 0 (map (λ m. m.after) (flat_map entity_mentions es)) (omega arith) r,
+    )

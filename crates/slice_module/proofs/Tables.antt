@@ -1,5 +1,6 @@
 -- Where the things of a function stand in the tables of a resolved module.
-use Rattle.std.proofs.Common.{◌≡◌, ℕ, zero, suc, ◌+◌, ◌-◌, ◌<◌, ◌≤◌, ◌⊎◌, inl, inr, List, [], ◌∷◌, ◌++◌, length, map, slice_get, Option, None, Some, refl, sym, ap, subst, ◌∙◌, arith}
+use Rattle.std.proofs.Common.{◌≡◌, ℕ, zero, suc, ◌+◌, ◌-◌, ◌<◌, ◌≤◌, ◌⊎◌, inl, inr, List, [], ◌∷◌, ◌++◌, length, map, slice_get, Option, None, Some, refl}
+use Rattle.std.proofs.Common.{sym, ap, subst, ◌∙◌, arith}
 use Rattle.std.specs.Option.{option_map}
 use Rattle.std.proofs.lemmas.Bool.{cases_lt}
 use Rattle.ir_module.specs.declared.module.Seg.{Seg}
@@ -7,7 +8,8 @@ use Rattle.ir_module.specs.declared.module.Block.{Block as Run}
 use Rattle.slice_module.specs.declared.module.Call.{Call}
 use Rattle.slice_module.specs.declared.module.Block.{Block}
 use Rattle.slice_module.specs.declared.module.Func.{Func}
-use Rattle.slice_module.specs.Tables.{call_instr, ret_instr, segment, block_count_of, seg_count_of, entry_at, run_of, runs_of, block_segs, segs_of, entries_from, runs_from, segs_from}
+use Rattle.slice_module.specs.Tables.{call_instr, ret_instr, segment, block_count_of, seg_count_of, entry_at, run_of, runs_of, block_segs, segs_of}
+use Rattle.slice_module.specs.Tables.{entries_from, runs_from, segs_from}
 
 -- ---- places of a list that was put together of two
 pub get_left : {A : Type 0} (xs ys : List A) (j : ℕ) → j < length xs → slice_get (xs ++ ys) j ≡ slice_get xs j
@@ -52,7 +54,8 @@ segs_long i (Some b) = long b.calls
     long (c ∷ cs) = ap suc (long cs) ∙ omega arith
 
 -- ---- the tables at these places
-pub entry_of_func : (b : List ℕ) (i : ℕ) (fs : List Func) (f : ℕ) → slice_get (entries_from b i fs) f ≡ option_map (entry_at b (block_at i fs f)) (slice_get fs f)
+pub entry_of_func : (b : List ℕ) (i : ℕ) (fs : List Func) (f : ℕ) →
+    slice_get (entries_from b i fs) f ≡ option_map (entry_at b (block_at i fs f)) (slice_get fs f)
 unfolding block_at
 entry_of_func b i [] zero = refl
 entry_of_func b i [] (suc f) = refl
@@ -65,11 +68,14 @@ some_is e = cc
 body_of : (h g : Func) (b : Block) → Some h ≡ Some g → g.body ≡ Some b → h.body ≡ Some b
 body_of h g b e body = ap (λ (x : Func). x.body) (some_is e) ∙ body
 
-run_first : (n k at : ℕ) (found : Option Block) (b : Block) (rest : List Run) → found ≡ Some b → at ≡ 0 → slice_get (runs_of n k found ++ rest) at ≡ Some (run_of n k b)
+run_first : (n k at : ℕ) (found : Option Block) (b : Block) (rest : List Run) → found ≡ Some b → at ≡ 0 →
+    slice_get (runs_of n k found ++ rest) at ≡ Some (run_of n k b)
 run_first n k at found b rest e first =
-    subst (λ v. slice_get (runs_of n k v ++ rest) at ≡ Some (run_of n k b)) (sym e) (subst (λ a. slice_get (run_of n k b ∷ rest) a ≡ Some (run_of n k b)) (sym first) refl)
+    subst (λ v. slice_get (runs_of n k v ++ rest) at ≡ Some (run_of n k b)) (sym e)
+    (subst (λ a. slice_get (run_of n k b ∷ rest) a ≡ Some (run_of n k b)) (sym first) refl)
 
-run_later : (n k at later : ℕ) (found : Option Block) (rest : List Run) → at ≡ block_count_of found + later → slice_get (runs_of n k found ++ rest) at ≡ slice_get rest later
+run_later : (n k at later : ℕ) (found : Option Block) (rest : List Run) → at ≡ block_count_of found + later →
+    slice_get (runs_of n k found ++ rest) at ≡ slice_get rest later
 run_later n k at later None rest e = ap (slice_get rest) (omega arith)
 run_later n k at later (Some b) rest e = get_right (run_of n k b ∷ []) rest at later e
 
@@ -125,9 +131,11 @@ unfolding seg_at
 located_first k h fs at None e l = absurd (omega arith)
 located_first k h fs at (Some b) e l = record { f = 0; j = at; g = h; b = b; is = refl; body = e; within = l; place = refl }
 
-located_later : (k : ℕ) (h : Func) (fs : List Func) (at later : ℕ) → at ≡ seg_count_of h.body + later → Located (k + seg_count_of h.body) fs later → Located k (h ∷ fs) at
+located_later : (k : ℕ) (h : Func) (fs : List Func) (at later : ℕ) → at ≡ seg_count_of h.body + later →
+    Located (k + seg_count_of h.body) fs later → Located k (h ∷ fs) at
 unfolding seg_at
-located_later k h fs at later e rest = record { f = suc rest.f; j = rest.j; g = rest.g; b = rest.b; is = rest.is; body = rest.body; within = rest.within; place = omega (arith, rest.place) }
+located_later k h fs at later e rest =
+    record { f = suc rest.f; j = rest.j; g = rest.g; b = rest.b; is = rest.is; body = rest.body; within = rest.within; place = omega (arith, rest.place) }
 
 pub located : (i k : ℕ) (fs : List Func) (at : ℕ) (seg : Seg) → slice_get (segs_from i fs) at ≡ Some seg → Located k fs at
 located i k [] at seg e = absurd (cc)
@@ -154,7 +162,8 @@ unfolding block_at
 run_here i h fs at None e l = absurd (omega arith)
 run_here i h fs at (Some b) e l = record { f = 0; g = h; b = b; is = refl; body = e; place = omega arith }
 
-run_further : (i : ℕ) (h : Func) (fs : List Func) (at later : ℕ) → at ≡ block_count_of h.body + later → LocatedRun (i + block_count_of h.body) fs later → LocatedRun i (h ∷ fs) at
+run_further : (i : ℕ) (h : Func) (fs : List Func) (at later : ℕ) → at ≡ block_count_of h.body + later →
+    LocatedRun (i + block_count_of h.body) fs later → LocatedRun i (h ∷ fs) at
 unfolding block_at
 run_further i h fs at later e rest = record { f = suc rest.f; g = rest.g; b = rest.b; is = rest.is; body = rest.body; place = omega (arith, rest.place) }
 
@@ -180,12 +189,14 @@ first_run n k (h ∷ fs) next e = by h.body e (first_run (n + 1) (k + seg_count_
     by : (found : Option Block) → slice_get (runs_of n k found ++ runs_from (n + 1) (k + seg_count_of found) fs) 0 ≡ Some next →
         (slice_get (runs_from (n + 1) (k + seg_count_of found) fs) 0 ≡ Some next → FirstRun (n + 1) (k + seg_count_of found) next) → FirstRun n k next
     by None e rest = let later = rest e in (omega (arith, later.0), omega (arith, later.1))
-    by (Some b) e rest = let same : run_of n k b ≡ next = some_is e in (omega (arith, ap (λ (r : Run). r.func.0) same), ap (λ (r : Run). r.first_seg) (sym same))
+    by (Some b) e rest = let same : run_of n k b ≡ next = some_is e in
+        (omega (arith, ap (λ (r : Run). r.func.0) same), ap (λ (r : Run). r.first_seg) (sym same))
 
 abbrev Follows : Run → Run → Type 0
 Follows run next = (run.func.0 ≤ next.func.0) × (next.first_seg ≡ run.first_seg + run.seg_count)
 
-pub runs_follow : (n k : ℕ) (fs : List Func) (at : ℕ) (run next : Run) → slice_get (runs_from n k fs) at ≡ Some run → slice_get (runs_from n k fs) (at + 1) ≡ Some next → Follows run next
+pub runs_follow : (n k : ℕ) (fs : List Func) (at : ℕ) (run next : Run) →
+    slice_get (runs_from n k fs) at ≡ Some run → slice_get (runs_from n k fs) (at + 1) ≡ Some next → Follows run next
 runs_follow n k [] at run next e more = absurd (cc)
 runs_follow n k (h ∷ fs) at run next e more = by h.body at e more (λ at. runs_follow (n + 1) (k + seg_count_of h.body) fs at run next)
   where

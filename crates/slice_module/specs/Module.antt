@@ -7,7 +7,7 @@ use Rattle.slice_module.specs.declared.module.Call.{Call}
 use Rattle.slice_module.specs.declared.module.Block.{Block}
 use Rattle.slice_module.specs.declared.module.Func.{Func}
 use Rattle.slice_module.specs.declared.module.Module.{Module}
-use Rattle.slice_module.specs.Names.{name_of, names_of, AreDistinct}
+use Rattle.slice_module.specs.Names.{name_of, names_of, AreDistinct, HasNoMarker}
 
 abbrev pub written_body : Option Block → Option Body
 written_body None = None
@@ -31,8 +31,10 @@ calls_of f = block_calls f.body
 abbrev pub NamesCallee : List ℕ → List (List ℕ) → Call → Type 0
 NamesCallee b names c = slice_get names c.callee.0 ≡ Some (name_of b c.mention)
 
--- m is the module of the text b: b is written with its functions, no name stands twice, and each callee is named
+-- m is the module of the text b: b is written with its functions, no name stands twice, none is that of a lifetime
+-- marker, and each callee is named
 pub record Accepted (b : List ℕ) (m : Module) : Type 0 where
   pub reads : Reads b (entities_of m)
   pub distinct : AreDistinct (names_of b (entities_of m))
+  pub plain : HasNoMarker (names_of b (entities_of m))
   pub callees : All (λ f. All (NamesCallee b (names_of b (entities_of m))) (calls_of f)) m.funcs

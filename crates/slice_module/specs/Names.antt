@@ -1,5 +1,6 @@
 -- The names of the functions of a text.
-use Rattle.std.specs.Prelude.{◌≡◌, ℕ, List, map, slice_get, Some}
+use Rattle.std.specs.Prelude.{◌≡◌, ℕ, Bool, false, List, drop, map, slice_get, Some}
+use Rattle.ir_module.specs.Calls.{is_lifetime_name}
 use Rattle.slice_text.specs.declared.entity.Mention.{Mention}
 use Rattle.slice_text.specs.declared.entity.Entity.{Entity}
 use Rattle.slice_text.specs.Tokens.{piece}
@@ -15,3 +16,11 @@ names_of b es = map (λ e. name_of b e.header) es
 -- no name stands twice
 abbrev pub AreDistinct : List (List ℕ) → Type 0
 AreDistinct names = (i j : ℕ) (name : List ℕ) → slice_get names i ≡ Some name → slice_get names j ≡ Some name → i ≡ j
+
+-- the name, written with its `@`, is that of a lifetime marker
+abbrev pub is_marker : List ℕ → Bool
+is_marker name = is_lifetime_name (drop 1 name)
+
+-- none is the name of a lifetime marker: such a function has parameters
+abbrev pub HasNoMarker : List (List ℕ) → Type 0
+HasNoMarker names = (i : ℕ) (name : List ℕ) → slice_get names i ≡ Some name → is_marker name ≡ false

@@ -3,12 +3,12 @@
 use Rattle.std.specs.Prelude.{◌+◌, ℕ, Bool, false, if◌then◌else◌, List, [], ◌∷◌, ◌++◌, length, map, drop, codes, Option, None, Some}
 use Rattle.attr_ids.specs.declared.ids.TypeId.{TypeId}
 use Rattle.ir_types.specs.declared.ir_type.IrType.TheVariants.{Void, Ptr}
-use Rattle.ir_module.specs.declared.words.FuncWords.{FuncWords}
-use Rattle.ir_module.specs.declared.words.ParamWords.{ParamWords}
-use Rattle.ir_module.specs.declared.words.CallWords.{CallWords}
-use Rattle.ir_module.specs.declared.words.CallPlaces.{CallPlaces}
+use Rattle.ir_module.specs.declared.attrs.FuncAttrs.{FuncAttrs}
+use Rattle.ir_module.specs.declared.attrs.CallAttrs.{CallAttrs}
+use Rattle.ir_module.specs.declared.attrs.CallPlaces.{CallPlaces}
 use Rattle.ir_module.specs.declared.op.FuncType.{FuncType}
 use Rattle.ir_module.specs.declared.op.Written.{Written}
+use Rattle.ir_module.specs.declared.op.Op.{Op}
 use Rattle.ir_module.specs.declared.op.Op.TheVariants as op
 use Rattle.ir_module.specs.declared.op.Operand.TheVariants as operand
 use Rattle.ir_module.specs.declared.op.Instr.{Instr}
@@ -18,6 +18,7 @@ use Rattle.ir_module.specs.declared.module.Seg.{Seg}
 use Rattle.ir_module.specs.declared.module.Block.{Block as Run}
 use Rattle.ir_module.specs.declared.module.Func.{Func as Entry}
 use Rattle.ir_module.specs.declared.module.Module.{Module as Resolved}
+use Rattle.ir_module.specs.Calls.{no_attrs}
 use Rattle.slice_text.specs.declared.entity.Mention.{Mention}
 use Rattle.slice_module.specs.declared.module.Call.{Call}
 use Rattle.slice_module.specs.declared.module.Block.{Block}
@@ -36,29 +37,13 @@ pointer = record { 0 = 1 }
 abbrev pub func_type : FuncType
 func_type = record { ret = void; params = []; variadic = false }
 
--- `nounwind` or not, and no other word
-abbrev pub words_with : Bool → FuncWords
-words_with nounwind = record { nounwind = nounwind; noreturn = false; nofree = false; norecurse = false; nocallback = false; memory = None }
+-- `nounwind` or not, and no other attribute
+abbrev pub attrs_with : Bool → FuncAttrs
+attrs_with nounwind = record { nounwind = nounwind; noreturn = false; nofree = false; norecurse = false; nocallback = false; memory = None }
 
-abbrev pub no_words : ParamWords
-no_words = record {
-  nonnull = false;
-  nocapture = false;
-  captures = false;
-  readnone = false;
-  readonly = false;
-  writeonly = false;
-  returned = false;
-  sret = false;
-  writable = false;
-  align = 0;
-  dereferenceable = 0;
-  bad = false;
-}
-
--- the words that are written at a call, and the offsets of words that are added to it
-abbrev pub call_words : Mention → CallWords
-call_words m = record { func = words_with m.nounwind; ret = no_words; args = [] }
+-- the attributes that are written at a call, and the offsets of words that are added to it
+abbrev pub call_attrs : Mention → CallAttrs
+call_attrs m = record { func = attrs_with m.nounwind; ret = no_attrs; args = [] }
 
 abbrev pub call_places : Mention → CallPlaces
 call_places m = record { ret = m.name.from; after = m.after; args = [] }
@@ -67,12 +52,16 @@ abbrev pub callee_at : Call → Written
 callee_at c = record { val = operand.Func c.callee; ty = pointer; at = c.mention.name.from }
 
 -- a direct call without arguments
+abbrev pub call_op : Call → Op
+call_op c = op.Call (record { func_ty = func_type; callee = callee_at c; args = []; attrs = call_attrs c.mention; places = call_places c.mention })
+
+-- the instruction that it is
 abbrev pub call_instr : Call → Instr
 call_instr c = record {
   result = None;
   named = false;
   ty = void;
-  op = op.Call func_type (callee_at c) [] (call_words c.mention) (call_places c.mention);
+  op = call_op c;
   span = record { from = c.mention.name.from; to = c.mention.after };
 }
 
@@ -107,13 +96,14 @@ entry_at b i f = record {
   name = bare_name b f.header;
   linkage = linkage_of f.body;
   ret = void;
-  ret_words = no_words;
+  ret_attrs = no_attrs;
   params = [];
   variadic = false;
-  words = words_with f.header.nounwind;
+  attrs = attrs_with f.header.nounwind;
   places = record { ret = f.header.name.from; after = f.header.after };
   personality = false;
   extra = [];
+  token = f.header.name;
   at = f.header.name.from;
   first_block = i;
   block_count = block_count_of f.body;

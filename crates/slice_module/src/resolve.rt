@@ -4,7 +4,7 @@ ghost use Rattle.std.specs.Prelude.{◌≡◌, ◌<◌, ◌≤◌, ◌^◌, leng
 ghost use Rattle.slice_text.specs.declared.entity.Entity.{Entity};
 ghost use Rattle.slice_text.specs.Entities.{Reads};
 ghost use Rattle.slice_text.specs.Places.{IsSpanIn, NamesWithin, ClosesRise, calls_of as mentions_of};
-ghost use Rattle.ir_module.specs.Formed.{IsWellFormed};
+ghost use Rattle.ir_module.specs.WellFormed.{IsWellFormed};
 ghost use Rattle.slice_module.specs.declared.module.Call.{Call};
 ghost use Rattle.slice_module.specs.declared.module.Func.{Func};
 ghost use Rattle.slice_module.specs.declared.module.Module.{Module};

@@ -1,4 +1,3 @@
 pub mod Steps
 pub mod Pieces
 pub mod Loop
-pub mod Fit

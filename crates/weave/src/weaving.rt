@@ -37,6 +37,3 @@ fn woven_len(text: &[u8], insertions: &[Insertion]) -> usize
     }
     len
 }
-
-#[cfg(test)]
-mod tests;

@@ -1,0 +1,10 @@
+use Rattle.std.proofs.Common.{length, arith}
+use Rattle.program_rows.proofs.Fit.{fit_none, fit_more}
+use Rattle.program_rows.proofs.weaving.is_fit.Goals as goal
+
+pub loop-insertion-init : goal.loop-insertion-init
+loop-insertion-init c = fit_none (length c.args.text.now) 0
+
+pub loop-insertion-preserved : goal.loop-insertion-preserved
+loop-insertion-preserved c =
+    fit_more c.args.insertions.now c.loop-insertion.insertion-index c.loop-insertion.invariant c.loop-insertion-test.true c.insertion-item.is (omega arith) (omega arith)

@@ -1,6 +1,0 @@
-use Rattle.std.proofs.Common.{length, take}
-use Rattle.weave.proofs.Fit.{IsFit}
-use Rattle.weave.proofs.weaving.tests.is_fit.Given as goal
-
-abbrev pub invariant-loop-insertion : goal.invariant-loop-insertion
-invariant-loop-insertion l = IsFit (length l.text) l.last (take l.insertion-index l.insertions)
