@@ -40,4 +40,4 @@ one_text b out other x y =
     let mine : ℕ → Bool = λ f. x.held (nounwind_of f) in
     let theirs : ℕ → Bool = λ f. y.held (nounwind_of f) in
     let words : insertions_of x.m mine ≡ insertions_of x.m theirs = words_same x.m mine theirs (λ f. facts (nounwind_of f)) 0 x.m.funcs in
-    x.woven ∙ ap (λ ins. woven_from ins 0 b) (words ∙ ap (λ m. insertions_of m theirs) same) ∙ sym y.woven
+    x.woven ∙ ap (λ ins. woven_from b ins 0 b) (words ∙ ap (λ m. insertions_of m theirs) same) ∙ sym y.woven

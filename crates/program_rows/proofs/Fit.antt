@@ -20,7 +20,8 @@ fit_none size last = record {
   within = All-nil (λ x. x.at ≤ size);
 }
 
-pub fit_more : {size last : ℕ} (insertions : List Insertion) (index : ℕ) {x : Insertion} → IsFit size last (take index insertions) → index < length insertions → x ≡ get_or insertions index x → last ≤ x.at → x.at ≤ size → IsFit size x.at (take (index + 1) insertions)
+pub fit_more : {size last : ℕ} (insertions : List Insertion) (index : ℕ) {x : Insertion} → IsFit size last (take index insertions) → index < length insertions →
+    x ≡ get_or insertions index x → last ≤ x.at → x.at ≤ size → IsFit size x.at (take (index + 1) insertions)
 fit_more {size} {last} insertions index {x} fit here read rises inside =
     let front : List Insertion = take index insertions in
     let more : front ++ x ∷ [] ≡ take (index + 1) insertions =
@@ -33,5 +34,6 @@ fit_more {size} {last} insertions index {x} fit here read rises inside =
     } in
     subst (λ (xs : List Insertion). IsFit size x.at xs) more next
 
-pub fit_all : {size last : ℕ} (insertions : List Insertion) (index : ℕ) → IsFit size last (take index insertions) → length insertions ≤ index → IsFit size last insertions
+pub fit_all : {size last : ℕ} (insertions : List Insertion) (index : ℕ) → IsFit size last (take index insertions) → length insertions ≤ index →
+    IsFit size last insertions
 fit_all {size} {last} insertions index fit past = subst (λ (xs : List Insertion). IsFit size last xs) (take_all index insertions past) fit

@@ -1,7 +1,7 @@
 -- A woven text as a shuffle: the bytes of the text and the insertions, each in its order.
-use Rattle.std.specs.Prelude.{◌≡◌, ℕ, ◌+◌, Option, Some, None, List, [], ◌∷◌, ◌++◌}
+use Rattle.std.specs.Prelude.{◌≡◌, ℕ, ◌+◌, List, [], ◌∷◌, ◌++◌}
 use Rattle.attr_ids.specs.declared.insertion.Insertion.{Insertion}
-use Rattle.weave.specs.Woven.{spelled}
+use Rattle.weave.specs.Woven.{spelled_in}
 
 -- a piece of a woven text: a byte of the text read, or the words of an insertion
 pub data Piece : Type 0 where
@@ -20,22 +20,17 @@ added_of [] = []
 added_of (Read _ ∷ rest) = added_of rest
 added_of (Added insertion ∷ rest) = insertion ∷ added_of rest
 
--- the first byte of a list, if it has one
-abbrev pub first_of : List ℕ → Option ℕ
-first_of [] = None
-first_of (byte ∷ _) = Some byte
-
 -- each insertion has as many bytes of the text before it as its offset says
 abbrev pub InPlace : ℕ → List Piece → Type 0
 InPlace offset [] = Unit {0}
 InPlace offset (Read _ ∷ rest) = InPlace (offset + 1) rest
 InPlace offset (Added insertion ∷ rest) = (insertion.at ≡ offset) × InPlace offset rest
 
--- the pieces written out: a byte as it was, an insertion as it is spelled before the next byte
-abbrev pub written : List Piece → List ℕ
-written [] = []
-written (Read byte ∷ rest) = byte ∷ written rest
-written (Added insertion ∷ rest) = spelled insertion (first_of (read_of rest)) ++ written rest
+-- the pieces written out: a byte as it was, an insertion as it is spelled in the text
+abbrev pub written : List ℕ → List Piece → List ℕ
+written text [] = []
+written text (Read byte ∷ rest) = byte ∷ written text rest
+written text (Added insertion ∷ rest) = spelled_in text insertion ++ written text rest
 
 -- the pieces are the bytes of the text and the insertions, none lost, repeated or moved, each
 -- insertion at its offset

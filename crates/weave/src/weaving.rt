@@ -1,7 +1,7 @@
-ghost use Rattle.std.specs.Prelude.{◌≡◌, ◌+◌, ◌≤◌, All, length, min, slice_get, sum_by, IfOk};
-ghost use Rattle.weave.specs.Woven.{spelled, OffsetsRise, Woven};
+ghost use Rattle.std.specs.Prelude.{◌≡◌, ◌+◌, ◌≤◌, All, length, min, sum_by, IfOk};
+ghost use Rattle.weave.specs.Woven.{spelled_in, OffsetsRise, Woven};
 
-use crate::spelling::{byte_at, spell, spelled_len};
+use crate::spelling::{gap_at, spell, spelled_len};
 use attr_ids::{Insertion, Insertions, NoMemory, Text};
 use std::alloc::Global;
 
@@ -18,7 +18,7 @@ pub fn weave(alloc: Global, text: &[u8], ins: &Insertions) -> Result<Text, NoMem
     for insertion in insertions {
         let at = insertion.at as usize;
         woven.extend_from_slice(&text[copied..at])?;
-        spell(&mut woven, insertion, byte_at(text, at))?;
+        spell(&mut woven, insertion, gap_at(text, at))?;
         copied = at;
     }
     woven.extend_from_slice(&text[copied..])?;
@@ -27,13 +27,13 @@ pub fn weave(alloc: Global, text: &[u8], ins: &Insertions) -> Result<Text, NoMem
 
 /// The length of the woven text, or `usize::MAX` where it is longer.
 fn woven_len(text: &[u8], insertions: &[Insertion]) -> usize
-    ensures { let added = sum_by (λ insertion. length (spelled insertion (slice_get text.now insertion.at))) insertions.now in
+    ensures { let added = sum_by (λ insertion. length (spelled_in text.now insertion)) insertions.now in
         result ≡ min (length text.now + added) usize.MAX }
 {
     let mut len = text.len();
     for insertion in insertions {
-        let next = byte_at(text, insertion.at as usize);
-        len = len.saturating_add(spelled_len(insertion, next));
+        let gap = gap_at(text, insertion.at as usize);
+        len = len.saturating_add(spelled_len(insertion, gap));
     }
     len
 }

@@ -7,4 +7,5 @@ loop-insertion-init c = fit_none (length c.args.text.now) 0
 
 pub loop-insertion-preserved : goal.loop-insertion-preserved
 loop-insertion-preserved c =
-    fit_more c.args.insertions.now c.loop-insertion.insertion-index c.loop-insertion.invariant c.loop-insertion-test.true c.insertion-item.is (omega arith) (omega arith)
+    fit_more c.args.insertions.now c.loop-insertion.insertion-index c.loop-insertion.invariant c.loop-insertion-test.true c.insertion-item.is (omega arith)
+    (omega arith)

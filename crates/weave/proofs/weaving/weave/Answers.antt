@@ -4,7 +4,8 @@ use Rattle.weave.proofs.weaving.weave.Goals as goal
 
 pub loop-insertion-init : goal.loop-insertion-init
 loop-insertion-init c =
-    subst (λ (woven : List ℕ). IsWovenSoFar c.args.text.now c.args.ins.now woven 0 0) (sym c.in_ok-woven.ensures.items) (woven_none c.args.text.now c.args.ins.now)
+    subst (λ (woven : List ℕ). IsWovenSoFar c.args.text.now c.args.ins.now woven 0 0) (sym c.in_ok-woven.ensures.items)
+    (woven_none c.args.text.now c.args.ins.now)
 
 pub slice_bounds-extend_from_slice-count : goal.slice_bounds-extend_from_slice-count
 slice_bounds-extend_from_slice-count c =
@@ -20,7 +21,7 @@ pub loop-insertion-preserved : goal.loop-insertion-preserved
 loop-insertion-preserved c =
     woven_spelled c.loop-insertion.invariant
     (next_is c.requires.rising c.requires.within c.loop-insertion.invariant c.as_slice-insertions.ensures c.loop-insertion-test.true c.insertion-item.is)
-    c.in_ok-extend_from_slice.ensures.items c.byte_at.ensures c.in_ok-spell.ensures
+    c.in_ok-extend_from_slice.ensures.items c.gap_at.ensures.before c.gap_at.ensures.next c.in_ok-spell.ensures
 
 pub returns : goal.returns
 returns c =
