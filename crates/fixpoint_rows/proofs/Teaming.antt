@@ -17,7 +17,8 @@ use Rattle.word_rule.proofs.Gathering.{first_rest}
 use Rattle.workers.specs.Workers.{IsReady, IsPoolOf}
 
 -- seats that have done nothing yet have nothing in hand
-pub all_ready : (words : LatticeWords) (seats : List WorkerSeat) → AreSeatsOf words seats → All (λ seat. core_of seat ≡ new_seat) seats → All (IsReady words) seats
+pub all_ready : (words : LatticeWords) (seats : List WorkerSeat) → AreSeatsOf words seats → All (λ seat. core_of seat ≡ new_seat) seats →
+    All (IsReady words) seats
 all_ready words seats of fresh k d l = ((of.each k (get_or seats k d) (slice_get-get_or seats k d l)).0, ap (λ (c : CoreSeat). c.mode) (fresh k d l))
 
 -- fresh pools have positions below the count
@@ -25,7 +26,8 @@ pub all_pools : (workers count : ℕ) (pools : List OwnPool) (robbers : List Rob
 all_pools workers count pools robbers fresh k d l = ap (λ (v : Log). v.count) (fresh.pools_fresh k d l)
 
 -- what holds of each thing of a list holds of the first, which is taken out, and of those that are left
-pub taken_first : {X : Type 0} (P : X → Type 0) (xs rest : List X) (x : X) → 0 < length xs → x ≡ get_or xs 0 x → rest ≡ remove xs 0 → All P xs → P x × All P rest
+pub taken_first : {X : Type 0} (P : X → Type 0) (xs rest : List X) (x : X) → 0 < length xs → x ≡ get_or xs 0 x → rest ≡ remove xs 0 → All P xs → P x ×
+    All P rest
 taken_first P xs rest x some first left all =
     let is : xs ≡ x ∷ rest = first_rest xs x some first ∙ ap (λ ys. x ∷ ys) (sym left) in
     let each : All P (x ∷ rest) = subst (λ ys. All P ys) is all in

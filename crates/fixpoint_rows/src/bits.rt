@@ -1,6 +1,5 @@
 //! The bits of a word and the two ladders.
-use crate::numbers::{at, put_all};
-use anyhow::Result;
+use crate::numbers::{Answer, at, put_all};
 use lattice_words::value::*;
 use lattice_words::word::FACT_BITS;
 use lattice_words::{align_rung, byte_rung, keep_align, shift};
@@ -56,37 +55,34 @@ const VALUE_BITS: [u32; FACT_BITS as usize] = [
     NOT_WRITTEN_THROUGH,
 ];
 
-fn put_bits(out: &mut Vec<u64>) -> Result<()> {
+fn put_bits(out: &mut Answer) {
     for bit in &VALUE_BITS {
-        out.push(u64::from(*bit))?;
+        out.push(u64::from(*bit));
     }
-    Ok(())
 }
 
-fn put_byte_rungs(out: &mut Vec<u64>) -> Result<()> {
+fn put_byte_rungs(out: &mut Answer) {
     for rung in 0..BYTE_RUNGS {
-        out.push(byte_rung(rung))?;
+        out.push(byte_rung(rung));
     }
-    Ok(())
 }
 
-fn put_align_rungs(out: &mut Vec<u64>) -> Result<()> {
+fn put_align_rungs(out: &mut Answer) {
     for rung in 0..ALIGN_RUNGS {
-        out.push(align_rung(rung))?;
+        out.push(align_rung(rung));
     }
-    Ok(())
 }
 
 /// Answers a call of the words, if it is one.
-pub(crate) fn answer(call: &str, n: &[u64], out: &mut Vec<u64>) -> Result<bool> {
+pub(crate) fn answer(call: &str, n: &[u64], out: &mut Answer) -> bool {
     match call {
-        "value_bits" => put_bits(out)?,
-        "byte_rungs" => put_byte_rungs(out)?,
-        "align_rungs" => put_align_rungs(out)?,
-        "ladders" => put_all(out, &[ALL_BYTES, ALL_ALIGN])?,
-        "shift" => out.push(shift(at(n, 0), at(n, 1)))?,
-        "keep_align" => out.push(keep_align(at(n, 0), at(n, 1)))?,
-        _ => return Ok(false),
+        "value_bits" => put_bits(out),
+        "byte_rungs" => put_byte_rungs(out),
+        "align_rungs" => put_align_rungs(out),
+        "ladders" => put_all(out, &[ALL_BYTES, ALL_ALIGN]),
+        "shift" => out.push(shift(at(n, 0), at(n, 1))),
+        "keep_align" => out.push(keep_align(at(n, 0), at(n, 1))),
+        _ => return false,
     }
-    Ok(true)
+    true
 }

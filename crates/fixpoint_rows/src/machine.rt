@@ -4,7 +4,7 @@ ghost use Rattle.fix_core.specs.Machine.{new_seat, IsEvent};
 ghost use Rattle.fix_core.specs.Runs.{CanRun};
 
 use crate::desk::Desk;
-use crate::numbers::{put_all, put_places};
+use crate::numbers::{Answer, put_all, put_places};
 use anyhow::{Result, bail};
 use attr_ids::{NoMemory, PosId, PosList, WordList};
 use dep_graph::dependents;
@@ -110,26 +110,25 @@ fn reached(alloc: Global, s: &System, n: &[u64]) -> Result<CoreState> {
 
 /// Answers a seat: whether it is idle, has a position open or owes some, how many words it took up and told, how many
 /// positions it knows, which, and which it owes.
-fn put_seat(out: &mut Vec<u64>, seat: &CoreSeat) -> Result<()> {
+fn put_seat(out: &mut Answer, seat: &CoreSeat) {
     let mode = match &seat.mode {
         CoreMode::Idle => 0,
         CoreMode::Open { .. } => 1,
         CoreMode::Owes { .. } => 2,
     };
-    put_all(out, &[mode, seat.took, seat.told, seat.known.len() as u64])?;
-    put_places(out, seat.known.as_slice())?;
+    put_all(out, &[mode, seat.took, seat.told, seat.known.len() as u64]);
+    put_places(out, seat.known.as_slice());
     if let CoreMode::Owes { list } = &seat.mode {
-        put_places(out, list.as_slice())?;
+        put_places(out, list.as_slice());
     }
-    Ok(())
 }
 
 /// Answers the words that are reached, and the seats.
-fn reach(alloc: Global, out: &mut Vec<u64>, s: &System, n: &[u64]) -> Result<()> {
+fn reach(alloc: Global, out: &mut Answer, s: &System, n: &[u64]) -> Result<()> {
     let end = reached(alloc, s, n)?;
-    put_all(out, end.words.as_slice())?;
+    put_all(out, end.words.as_slice());
     for seat in end.seats.as_slice() {
-        put_seat(out, seat)?;
+        put_seat(out, seat);
     }
     Ok(())
 }
@@ -140,7 +139,7 @@ pub(crate) fn answer(
     desk: &mut Desk,
     call: &str,
     n: &[u64],
-    out: &mut Vec<u64>,
+    out: &mut Answer,
 ) -> Result<bool> {
     match call {
         "events" => reach(alloc, out, &desk.system, n)?,

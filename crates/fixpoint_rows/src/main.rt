@@ -15,19 +15,20 @@ mod terms;
 
 use anyhow::{Result, bail};
 use desk::Desk;
+use numbers::Answer;
 use std::alloc::Global;
 use std::thread::Threads;
 
-/// What a call answers: numbers, or nothing where no call has this name.
+/// The numbers that a call answers.
 fn answer<R: Threads + Sync>(
     rt: &R,
     alloc: Global,
     desk: &mut Desk,
     call: &str,
     n: &[u64],
-) -> Result<Option<Vec<u64>>> {
-    let mut out = Vec::new(alloc);
-    let is_known = bits::answer(call, n, &mut out)?
+) -> Result<Vec<u64>> {
+    let mut out = Answer::new(alloc);
+    let is_known = bits::answer(call, n, &mut out)
         || lists::answer(alloc, call, n, &mut out)?
         || rows::answer(alloc, desk, call, n, &mut out)?
         || terms::answer(alloc, desk, call, n, &mut out)?
@@ -35,7 +36,13 @@ fn answer<R: Threads + Sync>(
         || seats::answer(alloc, desk, call, n, &mut out)?
         || pools::answer(alloc, call, &mut out)?
         || running::answer(rt, alloc, desk, call, n, &mut out)?;
-    Ok(if is_known { Some(out) } else { None })
+    if !is_known {
+        bail!("no such call: {call}");
+    }
+    match out.whole() {
+        Some(numbers) => Ok(numbers),
+        None => bail!("out of memory"),
+    }
 }
 
 /// A line and what came of it.
@@ -49,11 +56,8 @@ fn told<R: Threads + Sync>(rt: &R, alloc: Global, desk: &mut Desk, line: &str) -
         return Ok(text);
     }
     let n = numbers::parsed(alloc, words)?;
-    let Some(answer) = answer(rt, alloc, desk, call, &n)? else {
-        bail!("no such call: {call}");
-    };
     text.push_str(" =")?;
-    for number in &answer {
+    for number in &answer(rt, alloc, desk, call, &n)? {
         text.push_str(&format!(in alloc; " {number:x}")?)?;
     }
     Ok(text)

@@ -4,6 +4,34 @@ use attr_ids::PosId;
 use std::alloc::Global;
 use std::str::SplitWhitespace;
 
+/// What a call answers, number by number. Where memory was refused it is lost.
+#[derive(Drop)]
+pub(crate) struct Answer {
+    numbers: Vec<u64>,
+    is_lost: bool,
+}
+
+impl Answer {
+    pub(crate) fn new(alloc: Global) -> Answer {
+        Answer {
+            numbers: Vec::new(alloc),
+            is_lost: false,
+        }
+    }
+
+    pub(crate) fn push(&mut self, number: u64) {
+        if self.numbers.push(number).is_err() {
+            self.is_lost = true;
+        }
+    }
+
+    /// The numbers, if none is lost.
+    pub(crate) fn whole(self) -> Option<Vec<u64>> {
+        let Answer { numbers, is_lost } = self;
+        if is_lost { None } else { Some(numbers) }
+    }
+}
+
 /// The numbers that these words are in base 16.
 pub(crate) fn parsed(alloc: Global, words: SplitWhitespace<'_>) -> Result<Vec<u64>> {
     let mut n = Vec::new(alloc);
@@ -34,17 +62,15 @@ pub(crate) fn rest(n: &[u64], from: usize) -> &[u64] {
 }
 
 /// Answers each of these numbers.
-pub(crate) fn put_all(out: &mut Vec<u64>, words: &[u64]) -> Result<()> {
+pub(crate) fn put_all(out: &mut Answer, words: &[u64]) {
     for word in words {
-        out.push(*word)?;
+        out.push(*word);
     }
-    Ok(())
 }
 
 /// Answers the number of each of these positions.
-pub(crate) fn put_places(out: &mut Vec<u64>, places: &[PosId]) -> Result<()> {
+pub(crate) fn put_places(out: &mut Answer, places: &[PosId]) {
     for p in places {
-        out.push(u64::from(p.0))?;
+        out.push(u64::from(p.0));
     }
-    Ok(())
 }

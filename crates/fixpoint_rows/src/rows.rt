@@ -1,6 +1,6 @@
 //! Many lists in one run of memory.
 use crate::desk::Desk;
-use crate::numbers::{at, place, put_all, put_places, small};
+use crate::numbers::{Answer, at, place, put_all, put_places, small};
 use anyhow::Result;
 use row_lists::{EdgeRows, Rows};
 use std::alloc::Global;
@@ -17,10 +17,10 @@ fn rooms(alloc: Global, n: &[u64]) -> Result<Vec<u32>> {
 fn shared<T: Send + Sync>(_value: &T) {}
 
 /// Makes lists with these rooms; answers whether they were refused.
-fn open_rows(alloc: Global, desk: &mut Desk, n: &[u64], out: &mut Vec<u64>) -> Result<()> {
+fn open_rows(alloc: Global, desk: &mut Desk, n: &[u64], out: &mut Answer) -> Result<()> {
     let rooms = rooms(alloc, n)?;
     let made = Rows::with_rooms(alloc, &rooms, 0);
-    out.push(u64::from(made.is_err()))?;
+    out.push(u64::from(made.is_err()));
     if let Ok(rows) = made {
         shared(&rows);
         desk.rows = rows;
@@ -29,10 +29,10 @@ fn open_rows(alloc: Global, desk: &mut Desk, n: &[u64], out: &mut Vec<u64>) -> R
 }
 
 /// The same for lists of positions with words.
-fn open_edges(alloc: Global, desk: &mut Desk, n: &[u64], out: &mut Vec<u64>) -> Result<()> {
+fn open_edges(alloc: Global, desk: &mut Desk, n: &[u64], out: &mut Answer) -> Result<()> {
     let rooms = rooms(alloc, n)?;
     let made = EdgeRows::with_rooms(alloc, &rooms);
-    out.push(u64::from(made.is_err()))?;
+    out.push(u64::from(made.is_err()));
     if let Ok(edges) = made {
         shared(&edges);
         desk.edges = edges;
@@ -54,13 +54,12 @@ fn put(rows: &mut Rows<u32>, list: usize, item: u32) -> Result<()> {
 }
 
 /// Answers the numbers of a list.
-fn put_row(out: &mut Vec<u64>, rows: &Rows<u32>, list: usize) -> Result<()> {
+fn put_row(out: &mut Answer, rows: &Rows<u32>, list: usize) {
     if list < rows.len() {
         for item in rows.get(list) {
-            out.push(u64::from(*item))?;
+            out.push(u64::from(*item));
         }
     }
-    Ok(())
 }
 
 /// Puts a position and its word at the end of a list.
@@ -96,12 +95,11 @@ fn write_first(edges: &mut EdgeRows, list: usize, word: u64) {
 }
 
 /// Answers the positions of a list, and then its words.
-fn put_edges(out: &mut Vec<u64>, edges: &EdgeRows, list: usize) -> Result<()> {
+fn put_edges(out: &mut Answer, edges: &EdgeRows, list: usize) {
     if list < edges.len() {
-        put_places(out, edges.positions(list))?;
-        put_all(out, edges.bits(list))?;
+        put_places(out, edges.positions(list));
+        put_all(out, edges.bits(list));
     }
-    Ok(())
 }
 
 /// Answers a call of lists in one run, if it is one.
@@ -110,23 +108,23 @@ pub(crate) fn answer(
     desk: &mut Desk,
     call: &str,
     n: &[u64],
-    out: &mut Vec<u64>,
+    out: &mut Answer,
 ) -> Result<bool> {
     let list = small(n, 0) as usize;
     match call {
         "rooms" => open_rows(alloc, desk, n, out)?,
         "put" => put(&mut desk.rows, list, small(n, 1))?,
-        "row" => put_row(out, &desk.rows, list)?,
-        "row_count" => out.push(desk.rows.len() as u64)?,
-        "run_len" => out.push(desk.rows.run_len() as u64)?,
+        "row" => put_row(out, &desk.rows, list),
+        "row_count" => out.push(desk.rows.len() as u64),
+        "run_len" => out.push(desk.rows.run_len() as u64),
         "edge_rooms" => open_edges(alloc, desk, n, out)?,
         "edge_rows" => new_edges(alloc, desk, small(n, 0))?,
-        "edge_count" => out.push(desk.edges.len() as u64)?,
+        "edge_count" => out.push(desk.edges.len() as u64),
         "join" => join(&mut desk.edges, n)?,
         "cut" => cut(&mut desk.edges, list, small(n, 1) as usize),
         "keep" => keep(&mut desk.edges, list, at(n, 1)),
         "write_first" => write_first(&mut desk.edges, list, at(n, 1)),
-        "edges" => put_edges(out, &desk.edges, list)?,
+        "edges" => put_edges(out, &desk.edges, list),
         _ => return Ok(false),
     }
     Ok(true)

@@ -6,7 +6,7 @@ ghost use Rattle.workers.specs.Workers.{count_in, IsReady, IsPoolOf, IsWorkerOf}
 ghost use Rattle.steal_pool.specs.Pools.{IsRobberOf};
 
 use crate::desk::Desk;
-use crate::numbers::{at, place, put_all, small};
+use crate::numbers::{Answer, at, place, put_all, small};
 use anyhow::{Result, bail};
 use attr_ids::{PosId, WorkerEnd};
 use attr_io::Gate;
@@ -34,14 +34,13 @@ fn code(end: WorkerEnd) -> u64 {
 }
 
 /// Answers the position of each hint that the pool still has, of at most three.
-fn put_hints(out: &mut Vec<u64>, own: &mut OwnPool) -> Result<()> {
+fn put_hints(out: &mut Answer, own: &mut OwnPool) {
     for _ in 0..3 {
         let Some(p) = own.draw() else {
-            return Ok(());
+            return;
         };
-        out.push(u64::from(p.0))?;
+        out.push(u64::from(p.0));
     }
-    Ok(())
 }
 
 /// One worker for each seat, by their numbers.
@@ -113,14 +112,15 @@ fn run_one(words: &LatticeWords, worker: &mut Worker, turns: u64) -> u64
 
 /// Gives the only worker these hints, and runs it for so many turns. Answers how it ended, and the hints that its pool
 /// has then.
-fn alone(alloc: Global, out: &mut Vec<u64>, s: &System, n: &[u64]) -> Result<()> {
+fn alone(alloc: Global, out: &mut Answer, s: &System, n: &[u64]) -> Result<()> {
     let graph = dependents(alloc, s)?;
     let (words, mut team) = opened(alloc, s, &graph, 1)?;
     let mut worker = team.remove(0);
     give(&words, &mut worker, place(n, 1));
     give(&words, &mut worker, place(n, 2));
-    out.push(run_one(&words, &mut worker, at(n, 0)))?;
-    put_hints(out, &mut worker.own)
+    out.push(run_one(&words, &mut worker, at(n, 0)));
+    put_hints(out, &mut worker.own);
+    Ok(())
 }
 
 /// Whether a dirty bit of the word is set, which ends the worker.
@@ -133,19 +133,19 @@ fn finds_dirty(words: &LatticeWords, worker: &mut Worker, p: PosId) -> bool
 
 /// Gives the first of two workers two hints, and runs the second one for so many turns. Answers how it ended, and
 /// whether the first finds the words of the hints, and then of another position, dirty.
-fn other(alloc: Global, out: &mut Vec<u64>, s: &System, n: &[u64]) -> Result<()> {
+fn other(alloc: Global, out: &mut Answer, s: &System, n: &[u64]) -> Result<()> {
     let graph = dependents(alloc, s)?;
     let (words, mut team) = opened(alloc, s, &graph, 2)?;
     let mut first = team.remove(0);
     let mut second = team.remove(0);
     give(&words, &mut first, place(n, 1));
     give(&words, &mut first, place(n, 2));
-    out.push(run_one(&words, &mut second, at(n, 0)))?;
+    out.push(run_one(&words, &mut second, at(n, 0)));
     let is_left = finds_dirty(&words, &mut first, place(n, 1))
         || finds_dirty(&words, &mut first, place(n, 2));
-    out.push(u64::from(is_left))?;
+    out.push(u64::from(is_left));
     if !is_left {
-        out.push(u64::from(finds_dirty(&words, &mut first, place(n, 3))))?;
+        out.push(u64::from(finds_dirty(&words, &mut first, place(n, 3))));
     }
     Ok(())
 }
@@ -154,7 +154,7 @@ fn other(alloc: Global, out: &mut Vec<u64>, s: &System, n: &[u64]) -> Result<()>
 fn all<R: Threads + Sync>(
     rt: &R,
     alloc: Global,
-    out: &mut Vec<u64>,
+    out: &mut Answer,
     s: &System,
     n: &[u64],
 ) -> Result<()> {
@@ -164,9 +164,9 @@ fn all<R: Threads + Sync>(
     }
     let graph = dependents(alloc, s)?;
     let ran = run_all(rt, alloc, s, &graph, workers as u8, at(n, 1), &Still)?;
-    put_all(out, ran.words.as_slice())?;
+    put_all(out, ran.words.as_slice());
     for end in ran.ends.as_slice() {
-        out.push(code(*end))?;
+        out.push(code(*end));
     }
     Ok(())
 }
@@ -178,7 +178,7 @@ pub(crate) fn answer<R: Threads + Sync>(
     desk: &mut Desk,
     call: &str,
     n: &[u64],
-    out: &mut Vec<u64>,
+    out: &mut Answer,
 ) -> Result<bool> {
     match call {
         "run_one" => alone(alloc, out, &desk.system, n)?,

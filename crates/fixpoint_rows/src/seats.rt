@@ -7,7 +7,7 @@ ghost use Rattle.word_rule.specs.Views.{looked_in};
 ghost use Rattle.word_rule.specs.Belongs.{core_of, number_of, system_in, workers_in, IsSeatOf, IsOpen, AreSeatsOf};
 
 use crate::desk::Desk;
-use crate::numbers::{put_all, small};
+use crate::numbers::{Answer, put_all, small};
 use anyhow::{Result, bail};
 use attr_ids::{PosId, Sequence, WordList};
 use dep_graph::dependents;
@@ -143,7 +143,7 @@ fn end(
 }
 
 /// The second seat takes position 1 up, which has no inputs, cuts it and tells its reader.
-fn cut_second(words: &LatticeWords, seat: &mut WorkerSeat, out: &mut Vec<u64>) -> Result<()>
+fn cut_second(words: &LatticeWords, seat: &mut WorkerSeat, out: &mut Answer) -> Result<()>
     requires of { IsSeatOf words.now seat.old }
     requires idle { (core_of seat.old).mode ≡ Idle }
     requires position { 1 < length (system_in words.now).masks }
@@ -155,11 +155,12 @@ fn cut_second(words: &LatticeWords, seat: &mut WorkerSeat, out: &mut Vec<u64>) -
     let lost = cut(words, seat);
     let (told, unset) = tell_first(words, seat)?;
     rests(words, seat)?;
-    put_all(out, &[facts, lost, told, unset])
+    put_all(out, &[facts, lost, told, unset]);
+    Ok(())
 }
 
 /// The first seat takes position 0 up, which has one input, and cuts it.
-fn cut_first(words: &LatticeWords, seat: &mut WorkerSeat, out: &mut Vec<u64>) -> Result<()>
+fn cut_first(words: &LatticeWords, seat: &mut WorkerSeat, out: &mut Answer) -> Result<()>
     requires of { IsSeatOf words.now seat.old }
     requires idle { (core_of seat.old).mode ≡ Idle }
     requires position { 0 < length (system_in words.now).masks }
@@ -170,12 +171,13 @@ fn cut_first(words: &LatticeWords, seat: &mut WorkerSeat, out: &mut Vec<u64>) ->
     let (facts, looked) = take_reader(words, seat, PosId(0))?;
     let lost = cut(words, seat);
     rests(words, seat)?;
-    put_all(out, &[facts, looked, lost])
+    put_all(out, &[facts, looked, lost]);
+    Ok(())
 }
 
 /// Runs two seats over a system of two positions, of which the first one reads the second. Answers what they see of
 /// their own bits, what they take up, look at, cut and tell, and the words that they leave.
-fn run_two(alloc: Global, out: &mut Vec<u64>, system: &System) -> Result<()> {
+fn run_two(alloc: Global, out: &mut Answer, system: &System) -> Result<()> {
     if system.count() != 2 {
         bail!("not two positions");
     }
@@ -184,29 +186,31 @@ fn run_two(alloc: Global, out: &mut Vec<u64>, system: &System) -> Result<()> {
     let (mut first, mut second) = pair(&words, seats);
     shared(&words);
     is_send(&first);
-    out.push(sees(&words, &mut first, PosId(1)))?;
-    out.push(sees(&words, &mut second, PosId(1)))?;
+    out.push(sees(&words, &mut first, PosId(1)));
+    out.push(sees(&words, &mut second, PosId(1)));
     cut_second(&words, &mut second, out)?;
-    out.push(sees(&words, &mut first, PosId(0)))?;
-    out.push(sees(&words, &mut second, PosId(0)))?;
+    out.push(sees(&words, &mut first, PosId(0)));
+    out.push(sees(&words, &mut second, PosId(0)));
     cut_first(&words, &mut first, out)?;
     if words.take(&mut first, PosId(1)).is_some() {
         bail!("the word was dirty");
     }
-    out.push(sees(&words, &mut second, PosId(0)))?;
+    out.push(sees(&words, &mut second, PosId(0)));
     let left = end(alloc, words, first, second)?;
-    put_all(out, left.as_slice())
+    put_all(out, left.as_slice());
+    Ok(())
 }
 
 /// Opens the words for so many seats, and answers how many there are, and what they leave at once.
-fn open_and_close(alloc: Global, out: &mut Vec<u64>, system: &System, seats: u32) -> Result<()> {
+fn open_and_close(alloc: Global, out: &mut Answer, system: &System, seats: u32) -> Result<()> {
     if seats == 0 || seats > 16 {
         bail!("not 1 to 16 seats");
     }
     let graph = dependents(alloc, system)?;
     let (words, seats) = LatticeWords::open(alloc, system, &graph, seats as u8)?;
-    out.push(seats.len() as u64)?;
-    put_all(out, words.close(seats).as_slice())
+    out.push(seats.len() as u64);
+    put_all(out, words.close(seats).as_slice());
+    Ok(())
 }
 
 /// Answers a call of seats, if it is one.
@@ -215,7 +219,7 @@ pub(crate) fn answer(
     desk: &mut Desk,
     call: &str,
     n: &[u64],
-    out: &mut Vec<u64>,
+    out: &mut Answer,
 ) -> Result<bool> {
     match call {
         "two_seats" => run_two(alloc, out, &desk.system)?,

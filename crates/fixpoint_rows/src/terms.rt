@@ -2,7 +2,7 @@
 ghost use Rattle.std.specs.Prelude.{◌≡◌, ◌^◌, ◌<◌, IsTrue, IfOk, All, length};
 
 use crate::desk::Desk;
-use crate::numbers::{at, place, put_all, put_places, rest, small};
+use crate::numbers::{Answer, at, place, put_all, put_places, rest, small};
 use anyhow::Result;
 use attr_ids::{EndList, NoMemory, PosId, WordList, WorkerEnd};
 use closing_pass::close;
@@ -115,64 +115,62 @@ fn meet_spread(alloc: Global, s: &mut System, n: &[u64]) -> Result<()> {
 }
 
 /// Answers a position's mask, its inputs, and what is read of each.
-fn put_position(out: &mut Vec<u64>, s: &System, p: PosId) -> Result<()> {
+fn put_position(out: &mut Answer, s: &System, p: PosId) {
     if p.0 < s.count() {
-        out.push(s.mask(p))?;
-        put_places(out, s.inputs(p))?;
+        out.push(s.mask(p));
+        put_places(out, s.inputs(p));
         for i in 0..MANY {
             if i as usize >= s.inputs(p).len() {
                 break;
             }
-            out.push(s.reads(p, i))?;
+            out.push(s.reads(p, i));
         }
     }
-    Ok(())
 }
 
 /// Answers what a position's mask and terms leave over these words of its inputs.
-fn eval(out: &mut Vec<u64>, s: &System, n: &[u64]) -> Result<()> {
+fn eval(out: &mut Answer, s: &System, n: &[u64]) {
     let p = place(n, 0);
     let looked = rest(n, 1);
     if p.0 < s.count() && s.inputs(p).len() == looked.len() {
-        out.push(s.eval(p, looked))?;
+        out.push(s.eval(p, looked));
     }
-    Ok(())
 }
 
 /// Answers what a position's mask and terms leave over these words of all positions.
-fn eval_in(alloc: Global, out: &mut Vec<u64>, s: &System, n: &[u64]) -> Result<()> {
+fn eval_in(alloc: Global, out: &mut Answer, s: &System, n: &[u64]) -> Result<()> {
     let p = place(n, 0);
     let words = WordList::from_slice(alloc, rest(n, 1))?;
     if p.0 < s.count() && words.len() == s.count() as usize {
-        out.push(s.eval_in(p, &words))?;
+        out.push(s.eval_in(p, &words));
     }
     Ok(())
 }
 
 /// Answers the dependents of a position, and what each reads of it.
-fn put_dependents(alloc: Global, out: &mut Vec<u64>, s: &System, p: PosId) -> Result<()> {
+fn put_dependents(alloc: Global, out: &mut Answer, s: &System, p: PosId) -> Result<()> {
     let graph = dependents(alloc, s)?;
     shared(&graph);
     if p.0 < s.count() {
-        put_places(out, graph.of(p))?;
+        put_places(out, graph.of(p));
         for j in 0..MANY {
             if j as usize >= graph.of(p).len() {
                 break;
             }
-            out.push(graph.read_by(p, j))?;
+            out.push(graph.read_by(p, j));
         }
     }
     Ok(())
 }
 
-fn put_budget(alloc: Global, out: &mut Vec<u64>, s: &System) -> Result<()> {
+fn put_budget(alloc: Global, out: &mut Answer, s: &System) -> Result<()> {
     let graph = dependents(alloc, s)?;
-    out.push(budget(s, &graph))?;
+    out.push(budget(s, &graph));
     Ok(())
 }
 
 /// Answers these words closed, after a worker that is done and, if the first number is not 0, one that is spent.
-fn closed(alloc: Global, out: &mut Vec<u64>, s: &System, n: &[u64]) -> Result<()> {
+fn closed(alloc: Global, out: &mut Answer, s: &System, n: &[u64]) -> Result<()> {
     let words = WordList::from_slice(alloc, rest(n, 1))?;
     let mut ends = EndList::new(alloc);
     ends.push(WorkerEnd::Done)?;
@@ -180,7 +178,7 @@ fn closed(alloc: Global, out: &mut Vec<u64>, s: &System, n: &[u64]) -> Result<()
         ends.push(WorkerEnd::Spent)?;
     }
     if words.len() == s.count() as usize {
-        put_all(out, close(s, words, &ends).as_slice())?;
+        put_all(out, close(s, words, &ends).as_slice());
     }
     Ok(())
 }
@@ -206,13 +204,13 @@ pub(crate) fn answer(
     desk: &mut Desk,
     call: &str,
     n: &[u64],
-    out: &mut Vec<u64>,
+    out: &mut Answer,
 ) -> Result<bool> {
     match call {
         "masks" => open(alloc, desk, n)?,
-        "count" => out.push(u64::from(desk.system.count()))?,
-        "position" => put_position(out, &desk.system, place(n, 0))?,
-        "eval" => eval(out, &desk.system, n)?,
+        "count" => out.push(u64::from(desk.system.count())),
+        "position" => put_position(out, &desk.system, place(n, 0)),
+        "eval" => eval(out, &desk.system, n),
         "eval_in" => eval_in(alloc, out, &desk.system, n)?,
         "dependents" => put_dependents(alloc, out, &desk.system, place(n, 0))?,
         "budget" => put_budget(alloc, out, &desk.system)?,

@@ -12,6 +12,7 @@
 //! An empty line, and one that begins with `;`, is printed as it stands.
 #![tactic(auto)]
 
+mod line;
 mod outcome;
 mod parts;
 mod row;
@@ -19,53 +20,53 @@ mod show;
 mod show_module;
 
 use attr_ids::NoMemory;
-use outcome::Outcome;
+use line::Line;
 use row::{Mode, Row};
 use std::alloc::Global;
 use std::io;
 
-/// Where the tree ends without each of the tokens.
-fn without_each(alloc: Global, row: &Row) -> Result<String, NoMemory> {
-    let mut line = String::new(alloc);
+/// Puts where the tree ends without each of the tokens.
+fn put_without_each(alloc: Global, line: &mut Line, row: &Row) -> Result<(), NoMemory> {
     for place in 0..outcome::count(alloc, row.text.as_slice())? {
         let text = outcome::without(alloc, row.text.as_slice(), place)?;
-        let found = outcome::read(alloc, row.production.as_str(), row.at, text.as_slice())?;
-        if place > 0 {
-            line.push_str(" ")?;
-        }
-        line.push_str(found.short(alloc)?.as_str())?;
+        line.blank();
+        outcome::read(alloc, row.production.as_str(), row.at, text.as_slice())?.put_short(line);
+    }
+    Ok(())
+}
+
+/// Puts the answer to a row.
+fn put_answer(alloc: Global, line: &mut Line, row: &Row) -> Result<(), NoMemory> {
+    let production = row.production.as_str();
+    let text = row.text.as_slice();
+    match row.mode {
+        Mode::End => outcome::read(alloc, production, row.at, text)?.put_whole(line),
+        Mode::Drop => put_without_each(alloc, line, row)?,
+        Mode::Show => show::put_shown(alloc, line, production, text)?,
+        Mode::Words => outcome::put_words(alloc, line, text)?,
+    }
+    Ok(())
+}
+
+/// The line that is printed for a line of the input.
+fn line_for(alloc: Global, text: &str) -> Result<Line, NoMemory> {
+    let mut line = Line::new(alloc);
+    if text.is_empty() || text.starts_with(';') {
+        line.put(text);
+        return Ok(line);
+    }
+    match row::parse(alloc, text)? {
+        Some(row) => put_answer(alloc, &mut line, &row)?,
+        None => line.put("no row"),
     }
     Ok(line)
 }
 
-/// The line that is printed for a row.
-fn answer(alloc: Global, row: &Row) -> Result<String, NoMemory> {
-    let production = row.production.as_str();
-    let text = row.text.as_slice();
-    match row.mode {
-        Mode::End => outcome::read(alloc, production, row.at, text)?.whole(alloc),
-        Mode::Drop => without_each(alloc, row),
-        Mode::Show => show::shown(alloc, production, text),
-        Mode::Words => outcome::words(alloc, text),
-    }
-}
-
-/// The line that is printed for a line of the input.
-fn line_for(alloc: Global, line: &str) -> Result<String, NoMemory> {
-    if line.is_empty() || line.starts_with(';') {
-        return Ok(String::from_str(alloc, line)?);
-    }
-    match row::parse(alloc, line)? {
-        Some(row) => answer(alloc, &row),
-        None => Ok(String::from_str(alloc, "no row")?),
-    }
-}
-
 fn main(rt: HostRuntime) -> io::Result<()> {
-    for line in rt.lines(rt.alloc()) {
-        match line_for(rt.alloc(), line?.as_str()) {
-            Ok(text) => println!(rt; "{text}")?,
-            Err(NoMemory) => println!(rt; "out of memory")?,
+    for text in rt.lines(rt.alloc()) {
+        match line_for(rt.alloc(), text?.as_str()) {
+            Ok(line) if !line.is_lost => println!(rt; "{}", line.as_str())?,
+            _ => println!(rt; "out of memory")?,
         }
     }
     Ok(())

@@ -3,6 +3,7 @@ ghost use Rattle.std.specs.Prelude.{◌≤◌, ◌<◌, ◌^◌, length, IfOk, I
 ghost use Rattle.ir_token.specs.declared.TheConstants.{MAX_BYTES, MAX_TOKENS};
 ghost use Rattle.ir_token.specs.Lists.{AreTokens};
 
+use crate::line::Line;
 use crate::parts::part;
 use attr_ids::NoMemory;
 use ir_parse_body::{SyntaxRefusal, offset, parse_body, terminals};
@@ -33,28 +34,29 @@ pub enum Outcome {
 }
 
 impl Outcome {
-    /// The outcome as a line.
-    pub fn whole(self, alloc: Global) -> Result<String, NoMemory> {
-        let text = match self {
-            Outcome::Ends { token, byte } => format!(in alloc; "token {token}, byte {byte}")?,
-            Outcome::Entities(count) => format!(in alloc; "{count} entities")?,
-            Outcome::Nothing => String::from_str(alloc, "none")?,
-            Outcome::Refused(byte) => format!(in alloc; "refused at byte {byte}")?,
-            Outcome::TooDeep => String::from_str(alloc, "too deep")?,
-            Outcome::NoTokens => String::from_str(alloc, "no tokens")?,
-            Outcome::NoProduction => String::from_str(alloc, "no production")?,
-        };
-        Ok(text)
+    /// Puts the outcome into the line.
+    pub fn put_whole(self, line: &mut Line) {
+        match self {
+            Outcome::Ends { token, byte } => {
+                line.token("token ", token);
+                line.token(", byte ", byte);
+            }
+            Outcome::Entities(count) => line.count(count, " entities"),
+            Outcome::Nothing => line.put("none"),
+            Outcome::Refused(byte) => line.token("refused at byte ", byte),
+            Outcome::TooDeep => line.put("too deep"),
+            Outcome::NoTokens => line.put("no tokens"),
+            Outcome::NoProduction => line.put("no production"),
+        }
     }
 
-    /// The outcome as a word: a token, a number of entities, or `-` where there is no tree.
-    pub fn short(self, alloc: Global) -> Result<String, NoMemory> {
-        let text = match self {
-            Outcome::Ends { token, .. } => format!(in alloc; "{token}")?,
-            Outcome::Entities(count) => format!(in alloc; "{count}")?,
-            _ => String::from_str(alloc, "-")?,
-        };
-        Ok(text)
+    /// Puts the outcome as a word: a token, a number of entities, or `-` where there is no tree.
+    pub fn put_short(self, line: &mut Line) {
+        match self {
+            Outcome::Ends { token, .. } => line.token("", token),
+            Outcome::Entities(count) => line.count(count, ""),
+            _ => line.put("-"),
+        }
     }
 }
 
@@ -101,22 +103,21 @@ pub fn without(alloc: Global, text: &[u8], place: usize) -> Result<Vec<u8>, NoMe
     Ok(found)
 }
 
-/// What each token of the text is to the grammar.
-pub fn words(alloc: Global, text: &[u8]) -> Result<String, NoMemory> {
-    let mut line = String::new(alloc);
+/// Puts what each token of the text is to the grammar.
+pub fn put_words(alloc: Global, line: &mut Line, text: &[u8]) -> Result<(), NoMemory> {
     if text.len() > MAX_BYTES {
-        return Ok(line);
+        return Ok(());
     }
     let Some(toks) = read_tokens(alloc, text)? else {
-        return Outcome::NoTokens.whole(alloc);
+        Outcome::NoTokens.put_whole(line);
+        return Ok(());
     };
     for terminal in terminals(alloc, &toks, text)?.as_slice() {
-        if !line.is_empty() {
-            line.push_str(" ")?;
-        }
-        line.push_str(format!(in alloc; "{terminal:?}")?.as_str())?;
+        line.blank();
+        let word = format!(in alloc; "{terminal:?}")?;
+        line.put(word.as_str());
     }
-    Ok(line)
+    Ok(())
 }
 
 /// What is answered for the module.

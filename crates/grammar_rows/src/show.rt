@@ -3,8 +3,9 @@ ghost use Rattle.std.specs.Prelude.{◌≤◌, ◌<◌, ◌^◌, length};
 ghost use Rattle.ir_token.specs.declared.TheConstants.{MAX_BYTES};
 ghost use Rattle.ir_token.specs.Lists.{AreTokens};
 
+use crate::line::Line;
 use crate::outcome::read_tokens;
-use crate::show_module::{body_of, module_of};
+use crate::show_module::{put_body, put_module};
 use attr_ids::NoMemory;
 use ir_parse_body::{body, terminals};
 use ir_parse_parts::{constant, fattr, ftype, rattrs};
@@ -13,7 +14,7 @@ use ir_tree::{Const, Fattr, Ftype, Rattr, Terminal};
 use std::alloc::Global;
 
 /// The first token of a getelementptr, and how many flags and how many operands it has.
-fn const_of(alloc: Global, found: &Const) -> Result<String, NoMemory> {
+fn put_const(line: &mut Line, found: &Const) {
     match found {
         Const::GetElementPtr {
             op,
@@ -21,114 +22,114 @@ fn const_of(alloc: Global, found: &Const) -> Result<String, NoMemory> {
             operands,
             ..
         } => {
-            let (flags, operands) = (flags.len(), operands.len());
-            Ok(format!(in alloc; "getelementptr {op}, {flags} flags, {operands} operands")?)
+            line.token("getelementptr ", *op);
+            line.put(", ");
+            line.count(flags.len(), " flags, ");
+            line.count(operands.len(), " operands");
         }
-        _ => Ok(String::from_str(alloc, "another constant")?),
+        _ => line.put("another constant"),
     }
 }
 
 /// How many tokens and parentheses stand directly in the parentheses of an attribute, and where it closes.
-fn fattr_of(alloc: Global, found: &Fattr) -> Result<String, NoMemory> {
+fn put_fattr(line: &mut Line, found: &Fattr) {
     match found {
         Fattr::Bracket { inside, close, .. } => {
-            let inside = inside.len();
-            Ok(format!(in alloc; "{inside} inside, close {close}")?)
+            line.count(inside.len(), " inside");
+            line.token(", close ", *close);
         }
-        _ => Ok(String::from_str(alloc, "no parentheses")?),
+        _ => line.put("no parentheses"),
     }
 }
 
 /// The number of bytes of an alignment between parentheses, and where it closes.
-fn rattr_of(alloc: Global, found: &Rattr) -> Result<String, NoMemory> {
+fn put_rattr(line: &mut Line, found: &Rattr) {
     match found {
         Rattr::AlignIn { bytes, close, .. } => {
-            Ok(format!(in alloc; "align of {bytes}, close {close}")?)
+            line.token("align of ", *bytes);
+            line.token(", close ", *close);
         }
-        Rattr::Align { bytes, .. } => Ok(format!(in alloc; "align of {bytes}")?),
-        Rattr::Fattr(_) => Ok(String::from_str(alloc, "fattr")?),
+        Rattr::Align { bytes, .. } => line.token("align of ", *bytes),
+        Rattr::Fattr(_) => line.put("fattr"),
     }
 }
 
 /// How many types are listed, and where dots stand behind them.
-fn ftype_of(alloc: Global, found: &Ftype) -> Result<String, NoMemory> {
+fn put_ftype(line: &mut Line, found: &Ftype) {
     match found {
         Ftype::Listed { types, dots } => {
-            let types = types.len();
+            line.count(types.len(), " types, ");
             match dots {
-                Some(dots) => Ok(format!(in alloc; "{types} types, dots {dots}")?),
-                None => Ok(format!(in alloc; "{types} types, no dots")?),
+                Some(dots) => line.token("dots ", *dots),
+                None => line.put("no dots"),
             }
         }
-        _ => Ok(String::from_str(alloc, "no types")?),
+        _ => line.put("no types"),
     }
 }
 
 /// What the last of the attributes of a parameter is.
-fn last_of(alloc: Global, found: &[Rattr]) -> Result<String, NoMemory> {
+fn put_last(line: &mut Line, found: &[Rattr]) {
     match found.last() {
-        Some(last) => rattr_of(alloc, last),
-        None => Ok(String::from_str(alloc, "no attributes")?),
+        Some(last) => put_rattr(line, last),
+        None => line.put("no attributes"),
     }
 }
 
-/// A part of the tree of a production, which begins at the first token.
-fn part(alloc: Global, production: &str, toks: &[Terminal]) -> Result<Option<String>, NoMemory>
+/// Puts a part of the tree of a production, which begins at the first token.
+fn put_part(
+    alloc: Global,
+    line: &mut Line,
+    production: &str,
+    toks: &[Terminal],
+) -> Result<(), NoMemory>
     requires few { length toks.now < 2 ^ 32 }
 {
     match production {
         "const" => match constant(alloc, toks, 0)? {
-            Some((found, _)) => Ok(Some(const_of(alloc, &found)?)),
-            None => Ok(None),
+            Some((found, _)) => put_const(line, &found),
+            None => line.put("none"),
         },
         "fattr" => match fattr(alloc, toks, 0)? {
-            Some((found, _)) => Ok(Some(fattr_of(alloc, &found)?)),
-            None => Ok(None),
+            Some((found, _)) => put_fattr(line, &found),
+            None => line.put("none"),
         },
         "ftype" => match ftype(alloc, toks, 0)? {
-            Some((found, _)) => Ok(Some(ftype_of(alloc, &found)?)),
-            None => Ok(None),
+            Some((found, _)) => put_ftype(line, &found),
+            None => line.put("none"),
         },
         "rattr*" => {
             let (found, _) = rattrs(alloc, toks, 0)?;
-            Ok(Some(last_of(alloc, found.as_slice())?))
+            put_last(line, found.as_slice());
         }
         "body" => match body(alloc, toks, 0)? {
-            Some((found, _)) => Ok(Some(body_of(alloc, &found)?)),
-            None => Ok(None),
+            Some((found, _)) => put_body(line, &found),
+            None => line.put("none"),
         },
-        _ => Ok(None),
+        _ => line.put("none"),
     }
+    Ok(())
 }
 
-/// A part of the tree of a production, or of a module.
-fn tree(
+/// Puts a part of the tree of a production that the text begins with.
+pub fn put_shown(
     alloc: Global,
+    line: &mut Line,
     production: &str,
-    toks: &Tokens,
     text: &[u8],
-) -> Result<Option<String>, NoMemory>
-    requires small { length text.now ≤ MAX_BYTES }
-    requires tokens { AreTokens text.now toks.now }
-    requires few { length toks.now < 2 ^ 32 }
-{
-    if production == "module" {
-        return module_of(alloc, toks, text);
-    }
-    let terminals = terminals(alloc, toks, text)?;
-    part(alloc, production, terminals.as_slice())
-}
-
-/// A part of the tree of a production that the text begins with.
-pub fn shown(alloc: Global, production: &str, text: &[u8]) -> Result<String, NoMemory> {
+) -> Result<(), NoMemory> {
     if text.len() > MAX_BYTES {
-        return Ok(String::from_str(alloc, "no tokens")?);
+        line.put("no tokens");
+        return Ok(());
     }
     let Some(toks) = read_tokens(alloc, text)? else {
-        return Ok(String::from_str(alloc, "no tokens")?);
+        line.put("no tokens");
+        return Ok(());
     };
-    match tree(alloc, production, &toks, text)? {
-        Some(found) => Ok(found),
-        None => Ok(String::from_str(alloc, "none")?),
+    if production == "module" {
+        put_module(alloc, line, &toks, text);
+        return Ok(());
     }
+    let terminals = terminals(alloc, &toks, text)?;
+    put_part(alloc, line, production, terminals.as_slice())
 }

@@ -3,99 +3,101 @@ ghost use Rattle.std.specs.Prelude.{◌≤◌, length};
 ghost use Rattle.ir_token.specs.declared.TheConstants.{MAX_BYTES};
 ghost use Rattle.ir_token.specs.Lists.{AreTokens};
 
-use attr_ids::NoMemory;
+use crate::line::Line;
 use ir_parse_top::parse_module;
 use ir_token::{Tokens, nesting};
-use ir_tree::{Body, Define, Entity, GlobalVar, Header, Instr, Last, Line, Term};
+use ir_tree::{Body, Define, Entity, GlobalVar, Header, Instr, Last, Line as TreeLine, Term};
 use std::alloc::Global;
 
 /// The blocks from which the arms of a phi come.
-fn instr_of(alloc: Global, found: &Instr) -> Result<String, NoMemory> {
-    let mut line = String::new(alloc);
+fn put_instr(line: &mut Line, found: &Instr) {
     if let Instr::Phi { arms, .. } = found {
-        line.push_str("phi from")?;
+        line.put("phi from");
         for arm in arms.as_slice() {
-            let from = arm.from;
-            line.push_str(format!(in alloc; " {from}")?.as_str())?;
+            line.token(" ", arm.from);
         }
-        line.push_str("; ")?;
+        line.put("; ");
     }
-    Ok(line)
 }
 
 /// The labels that a last line names, in their order.
-fn last_of(alloc: Global, found: &Last) -> Result<String, NoMemory> {
+fn put_last(line: &mut Line, found: &Last) {
     match found {
         Last::Term {
             term: Term::Branch { yes, no, .. },
             ..
-        } => Ok(format!(in alloc; "yes {yes}, no {no}")?),
-        Last::Term { .. } => Ok(String::from_str(alloc, "no labels")?),
+        } => {
+            line.token("yes ", *yes);
+            line.token(", no ", *no);
+        }
+        Last::Term { .. } => line.put("no labels"),
         Last::Invoke { invoke, .. } => {
-            let (normal, unwind) = (invoke.get().normal, invoke.get().unwind);
-            Ok(format!(in alloc; "normal {normal}, unwind {unwind}")?)
+            line.token("normal ", invoke.get().normal);
+            line.token(", unwind ", invoke.get().unwind);
         }
     }
 }
 
 /// The arms of the first line, where it is a phi, and the labels of the first block's last line.
-pub fn body_of(alloc: Global, found: &Body) -> Result<String, NoMemory> {
-    let mut line = String::new(alloc);
-    if let Some(Line::Instr { instr, .. }) = found.first.lines.get(0) {
-        line = instr_of(alloc, instr.get())?;
+pub fn put_body(line: &mut Line, found: &Body) {
+    if let Some(TreeLine::Instr { instr, .. }) = found.first.lines.get(0) {
+        put_instr(line, instr.get());
     }
-    line.push_str(last_of(alloc, &found.first.last)?.as_str())?;
-    Ok(line)
+    put_last(line, &found.first.last);
 }
 
 /// The name of a function, where its parameters close, and how many attributes and how many tails stand
 /// behind them.
-fn header_of(alloc: Global, found: &Header) -> Result<String, NoMemory> {
-    let (name, close) = (found.name, found.close);
-    let (attributes, tails) = (found.attributes.len(), found.tails.len());
-    Ok(format!(in alloc; "name {name}, close {close}, {attributes} attributes, {tails} tails")?)
+fn put_header(line: &mut Line, found: &Header) {
+    line.token("name ", found.name);
+    line.token(", close ", found.close);
+    line.put(", ");
+    line.count(found.attributes.len(), " attributes, ");
+    line.count(found.tails.len(), " tails");
 }
 
 /// How many tails and how many groups a global variable has, and whether it has an initial value.
-fn global_of(alloc: Global, found: &GlobalVar) -> Result<String, NoMemory> {
-    let (tails, groups) = (found.tails.len(), found.groups.len());
-    let is = if found.initial.is_some() {
-        "initial"
+fn put_global(line: &mut Line, found: &GlobalVar) {
+    line.count(found.tails.len(), " tails, ");
+    line.count(found.groups.len(), " groups, ");
+    line.put(if found.initial.is_some() {
+        "initial value"
     } else {
-        "no initial"
-    };
-    Ok(format!(in alloc; "{tails} tails, {groups} groups, {is} value")?)
+        "no initial value"
+    });
 }
 
 /// Where a definition begins, and where it closes.
-fn define_of(alloc: Global, found: &Define) -> Result<String, NoMemory> {
-    let (word, close) = (found.word, found.close);
-    Ok(format!(in alloc; "define {word} to {close}")?)
+fn put_define(line: &mut Line, found: &Define) {
+    line.token("define ", found.word);
+    line.token(" to ", found.close);
 }
 
 /// A part of an entity.
-fn entity_of(alloc: Global, found: &Entity) -> Result<String, NoMemory> {
+fn put_entity(line: &mut Line, found: &Entity) {
     match found {
-        Entity::Declare(declare) => header_of(alloc, &declare.get().header),
-        Entity::Define(define) => define_of(alloc, define.get()),
-        Entity::GlobalVar(global) => global_of(alloc, global.get()),
-        _ => Ok(String::from_str(alloc, "another entity")?),
+        Entity::Declare(declare) => put_header(line, &declare.get().header),
+        Entity::Define(define) => put_define(line, define.get()),
+        Entity::GlobalVar(global) => put_global(line, global.get()),
+        _ => line.put("another entity"),
     }
 }
 
-/// A part of the first entity of a module.
-pub fn module_of(alloc: Global, toks: &Tokens, text: &[u8]) -> Result<Option<String>, NoMemory>
+/// Puts a part of the first entity of a module.
+pub fn put_module(alloc: Global, line: &mut Line, toks: &Tokens, text: &[u8])
     requires small { length text.now ≤ MAX_BYTES }
     requires tokens { AreTokens text.now toks.now }
 {
     if nesting(toks, text) > 256 {
-        return Ok(None);
+        line.put("none");
+        return;
     }
     let Ok(tree) = parse_module(alloc, toks, text) else {
-        return Ok(None);
+        line.put("none");
+        return;
     };
     match tree.entities.get(0) {
-        Some(entity) => Ok(Some(entity_of(alloc, entity)?)),
-        None => Ok(None),
+        Some(entity) => put_entity(line, entity),
+        None => line.put("none"),
     }
 }

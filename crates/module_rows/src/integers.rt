@@ -55,7 +55,7 @@ fn operands(alloc: Global, words: &mut SplitWhitespace<'_>) -> Result<Vec<u64>, 
     Ok(list)
 }
 
-fn put(line: &mut Line, out: OpOut) -> Result<(), NoMemory> {
+fn put(line: &mut Line, out: OpOut) {
     match out {
         OpOut::Value(value) => line.hex(value),
         OpOut::Poison => line.word("poison"),
@@ -71,91 +71,73 @@ fn fits(width: u32, a: u64) -> bool
     a <= all_ones(width)
 }
 
-fn put_applied(line: &mut Line, width: u32, op: BinOp, a: u64, b: u64) -> Result<(), NoMemory>
+fn put_applied(line: &mut Line, width: u32, op: BinOp, a: u64, b: u64)
     requires { IsWidth width }
 {
     if fits(width, a) && fits(width, b) {
-        put(line, apply_at(width, op, a, b))?;
+        put(line, apply_at(width, op, a, b));
     }
-    Ok(())
 }
 
-fn put_compared(line: &mut Line, width: u32, p: Pred, a: u64, b: u64) -> Result<(), NoMemory>
+fn put_compared(line: &mut Line, width: u32, p: Pred, a: u64, b: u64)
     requires { IsWidth width }
 {
     if fits(width, a) && fits(width, b) {
-        line.hex(u64::from(compare_at(width, p, a, b)))?;
+        line.hex(u64::from(compare_at(width, p, a, b)));
     }
-    Ok(())
 }
 
 /// The answers of an operation on this number and each of the others.
-fn put_applied_row(
-    line: &mut Line,
-    width: u32,
-    op: BinOp,
-    a: u64,
-    list: &[u64],
-) -> Result<(), NoMemory>
+fn put_applied_row(line: &mut Line, width: u32, op: BinOp, a: u64, list: &[u64])
     requires { IsWidth width }
 {
     for b in list {
-        put_applied(line, width, op, a, *b)?;
+        put_applied(line, width, op, a, *b);
     }
-    Ok(())
 }
 
-fn put_compared_row(
-    line: &mut Line,
-    width: u32,
-    p: Pred,
-    a: u64,
-    list: &[u64],
-) -> Result<(), NoMemory>
+fn put_compared_row(line: &mut Line, width: u32, p: Pred, a: u64, list: &[u64])
     requires { IsWidth width }
 {
     for b in list {
-        put_compared(line, width, p, a, *b)?;
+        put_compared(line, width, p, a, *b);
     }
-    Ok(())
 }
 
-fn put_all_applied(line: &mut Line, width: u32, op: BinOp, list: &[u64]) -> Result<(), NoMemory>
+fn put_all_applied(line: &mut Line, width: u32, op: BinOp, list: &[u64])
     requires { IsWidth width }
 {
     for a in list {
-        put_applied_row(line, width, op, *a, list)?;
+        put_applied_row(line, width, op, *a, list);
     }
-    Ok(())
 }
 
-fn put_all_compared(line: &mut Line, width: u32, p: Pred, list: &[u64]) -> Result<(), NoMemory>
+fn put_all_compared(line: &mut Line, width: u32, p: Pred, list: &[u64])
     requires { IsWidth width }
 {
     for a in list {
-        put_compared_row(line, width, p, *a, list)?;
+        put_compared_row(line, width, p, *a, list);
     }
-    Ok(())
 }
 
 /// The answers at widths that the compiler knows.
-fn put_known(line: &mut Line, width: u32, op: BinOp, a: u64, b: u64) -> Result<(), NoMemory>
+fn put_known(line: &mut Line, width: u32, op: BinOp, a: u64, b: u64)
     requires { IsWidth width }
 {
     if !fits(width, a) || !fits(width, b) {
-        return Ok(());
+        return;
     }
     match width {
         1 => put(line, apply::<1>(op, a, b)),
         7 => put(line, apply::<7>(op, a, b)),
         8 => put(line, apply::<8>(op, a, b)),
         64 => put(line, apply::<64>(op, a, b)),
-        _ => Ok(()),
+        _ => {}
     }
 }
 
 /// Answers an operation or a comparison on each pair of numbers.
-fn put_named(line: &mut Line, width: u32, name: &str, list: &[u64]) -> Result<(), NoMemory>
+fn put_named(line: &mut Line, width: u32, name: &str, list: &[u64])
     requires { IsWidth width }
 {
     if let Some(op) = op_named(name) {
@@ -168,49 +150,40 @@ fn put_named(line: &mut Line, width: u32, name: &str, list: &[u64]) -> Result<()
 }
 
 /// A conversion to a narrower or a wider number.
-fn put_cast(line: &mut Line, from: u32, to: u32, is_signed: bool, a: u64) -> Result<(), NoMemory>
+fn put_cast(line: &mut Line, from: u32, to: u32, is_signed: bool, a: u64)
     requires from { IsWidth from }
     requires to { IsWidth to }
 {
     if !fits(from, a) {
-        return Ok(());
+        return;
     }
     if to < from {
-        line.hex(cast_at(from, to, CastOp::Trunc, a))
+        line.hex(cast_at(from, to, CastOp::Trunc, a));
     } else if from < to && is_signed {
-        line.hex(cast_at(from, to, CastOp::SExt, a))
+        line.hex(cast_at(from, to, CastOp::SExt, a));
     } else if from < to {
-        line.hex(cast_at(from, to, CastOp::ZExt, a))
-    } else {
-        Ok(())
+        line.hex(cast_at(from, to, CastOp::ZExt, a));
     }
 }
 
-fn put_all_cast(
-    line: &mut Line,
-    from: u32,
-    to: u32,
-    is_signed: bool,
-    list: &[u64],
-) -> Result<(), NoMemory>
+fn put_all_cast(line: &mut Line, from: u32, to: u32, is_signed: bool, list: &[u64])
     requires from { IsWidth from }
     requires to { IsWidth to }
 {
     for a in list {
-        put_cast(line, from, to, is_signed, *a)?;
+        put_cast(line, from, to, is_signed, *a);
     }
-    Ok(())
 }
 
 /// Conversions and comparisons of numbers of 8 bits at widths that the compiler knows.
-fn put_known_of_8(line: &mut Line, a: u64, b: u64) -> Result<(), NoMemory> {
+fn put_known_of_8(line: &mut Line, a: u64, b: u64) {
     if !fits(8, a) || !fits(8, b) {
-        return Ok(());
+        return;
     }
-    line.hex(cast::<8, 16>(CastOp::SExt, a))?;
-    line.hex(cast::<8, 16>(CastOp::ZExt, a))?;
-    line.hex(cast::<16, 8>(CastOp::Trunc, 256 + a))?;
-    line.truth(compare::<8>(Pred::Slt, a, b))?;
+    line.hex(cast::<8, 16>(CastOp::SExt, a));
+    line.hex(cast::<8, 16>(CastOp::ZExt, a));
+    line.hex(cast::<16, 8>(CastOp::Trunc, 256 + a));
+    line.truth(compare::<8>(Pred::Slt, a, b));
     line.truth(compare::<8>(Pred::Ugt, a, b))
 }
 
@@ -233,11 +206,13 @@ fn ask_int(
     line: &mut Line,
 ) -> Result<(), NoMemory> {
     let Some(width) = width(words) else {
-        return line.word("no such width");
+        line.word("no such width");
+        return Ok(());
     };
     let name = word(words);
     let list = operands(alloc, words)?;
-    put_named(line, width, name, &list)
+    put_named(line, width, name, &list);
+    Ok(())
 }
 
 /// `cast 8 16 signed 2 0 ff`: numbers of the first width at the second.
@@ -247,18 +222,21 @@ fn ask_cast(
     line: &mut Line,
 ) -> Result<(), NoMemory> {
     let Some(from) = width(words) else {
-        return line.word("no such width");
+        line.word("no such width");
+        return Ok(());
     };
     let Some(to) = width(words) else {
-        return line.word("no such width");
+        line.word("no such width");
+        return Ok(());
     };
     let is_signed = word(words) == "signed";
     let list = operands(alloc, words)?;
-    put_all_cast(line, from, to, is_signed, &list)
+    put_all_cast(line, from, to, is_signed, &list);
+    Ok(())
 }
 
 /// `known 8 Shl 1 8`: an operation at a width that the compiler knows.
-fn ask_known(words: &mut SplitWhitespace<'_>, line: &mut Line) -> Result<(), NoMemory> {
+fn ask_known(words: &mut SplitWhitespace<'_>, line: &mut Line) {
     let Some(width) = width(words) else {
         return line.word("no such width");
     };
@@ -278,7 +256,7 @@ pub(crate) fn ask(
     match question {
         "int" => ask_int(alloc, words, line)?,
         "cast" => ask_cast(alloc, words, line)?,
-        "known" => ask_known(words, line)?,
+        "known" => ask_known(words, line),
         _ => return Ok(false),
     }
     Ok(true)

@@ -2,41 +2,55 @@
 use attr_ids::NoMemory;
 use std::alloc::Global;
 
-/// What is answered to a question, word by word.
+/// What is answered to a question, word by word. Where memory was refused the line is lost.
 #[derive(Drop)]
 pub(crate) struct Line {
     alloc: Global,
     text: String,
+    pub is_lost: bool,
 }
 
 impl Line {
     /// The line as it was asked.
     pub(crate) fn new(alloc: Global, asked: &str) -> Result<Line, NoMemory> {
         let text = String::from_str(alloc, asked)?;
-        Ok(Line { alloc, text })
+        Ok(Line {
+            alloc,
+            text,
+            is_lost: false,
+        })
     }
 
     pub(crate) fn as_str(&self) -> &str {
         self.text.as_str()
     }
 
-    pub(crate) fn word(&mut self, word: &str) -> Result<(), NoMemory> {
-        self.text.push_str(" ")?;
-        self.text.push_str(word)?;
-        Ok(())
+    fn piece(&mut self, piece: &str) {
+        if self.text.push_str(piece).is_err() {
+            self.is_lost = true;
+        }
     }
 
-    pub(crate) fn number(&mut self, n: u64) -> Result<(), NoMemory> {
-        let text = format!(in self.alloc; "{n}")?;
-        self.word(text.as_str())
+    pub(crate) fn word(&mut self, word: &str) {
+        self.piece(" ");
+        self.piece(word);
     }
 
-    pub(crate) fn hex(&mut self, n: u64) -> Result<(), NoMemory> {
-        let text = format!(in self.alloc; "{n:x}")?;
-        self.word(text.as_str())
+    pub(crate) fn number(&mut self, n: u64) {
+        match format!(in self.alloc; "{n}") {
+            Ok(text) => self.word(text.as_str()),
+            Err(_) => self.is_lost = true,
+        }
     }
 
-    pub(crate) fn truth(&mut self, is_so: bool) -> Result<(), NoMemory> {
-        self.word(if is_so { "yes" } else { "no" })
+    pub(crate) fn hex(&mut self, n: u64) {
+        match format!(in self.alloc; "{n:x}") {
+            Ok(text) => self.word(text.as_str()),
+            Err(_) => self.is_lost = true,
+        }
+    }
+
+    pub(crate) fn truth(&mut self, is_so: bool) {
+        self.word(if is_so { "yes" } else { "no" });
     }
 }

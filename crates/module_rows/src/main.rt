@@ -50,9 +50,9 @@ fn ask(
 ) -> Result<bool, NoMemory> {
     Ok(
         integers::ask(alloc, question, words, line)?
-            || asks::ask(&desk.module, question, words, line)?
+            || asks::ask(&desk.module, question, words, line)
             || uses_of::ask(alloc, &desk.module, question, words, line)?
-            || types::ask(&desk.module.types, question, words, line)?,
+            || types::ask(&desk.module.types, question, words, line),
     )
 }
 
@@ -82,9 +82,9 @@ fn told(alloc: Global, desk: &mut Desk, text: &str) -> Result<Option<Line>, NoMe
     if add(alloc, desk, first, &mut words)? {
         return Ok(None);
     }
-    line.word("=")?;
+    line.word("=");
     if !ask(alloc, desk, first, &mut words, &mut line)? {
-        line.word("?")?;
+        line.word("?");
     }
     Ok(Some(line))
 }
@@ -93,9 +93,9 @@ fn told(alloc: Global, desk: &mut Desk, text: &str) -> Result<Option<Line>, NoMe
 fn answer_all(rt: &HostRuntime, desk: &mut Desk) -> io::Result<()> {
     for text in rt.lines(rt.alloc()) {
         match told(rt.alloc(), desk, text?.as_str()) {
-            Ok(Some(line)) => println!(rt; "{}", line.as_str())?,
+            Ok(Some(line)) if !line.is_lost => println!(rt; "{}", line.as_str())?,
             Ok(None) => {}
-            Err(NoMemory) => println!(rt; "out of memory")?,
+            _ => println!(rt; "out of memory")?,
         }
     }
     Ok(())

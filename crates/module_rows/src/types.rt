@@ -76,7 +76,7 @@ pub(crate) fn add_type(
     }
 }
 
-fn put(line: &mut Line, answer: Result<u64, TypeRefusal>) -> Result<(), NoMemory> {
+fn put(line: &mut Line, answer: Result<u64, TypeRefusal>) {
     match answer {
         Ok(n) => line.number(n),
         Err(TypeRefusal::Unsized) => line.word("unsized"),
@@ -98,7 +98,7 @@ fn offset(table: &TypeTable, t: TypeId, i: u32) -> Option<Result<u64, TypeRefusa
     Some(table.field_offset(t, i))
 }
 
-fn put_offset(line: &mut Line, table: &TypeTable, t: TypeId, i: u32) -> Result<(), NoMemory>
+fn put_offset(line: &mut Line, table: &TypeTable, t: TypeId, i: u32)
     requires { t.0 < length table.now }
 {
     match offset(table, t, i) {
@@ -113,16 +113,16 @@ pub(crate) fn ask(
     question: &str,
     words: &mut SplitWhitespace<'_>,
     line: &mut Line,
-) -> Result<bool, NoMemory> {
+) -> bool {
     let t = ty(words);
     if t.0 as usize >= table.len() {
-        return Ok(false);
+        return false;
     }
     match question {
-        "size" => put(line, table.size_of(t))?,
-        "align" => put(line, table.align_of(t))?,
-        "offset" => put_offset(line, table, t, id(words))?,
-        _ => return Ok(false),
+        "size" => put(line, table.size_of(t)),
+        "align" => put(line, table.align_of(t)),
+        "offset" => put_offset(line, table, t, id(words)),
+        _ => return false,
     }
-    Ok(true)
+    true
 }

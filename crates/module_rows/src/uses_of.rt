@@ -9,30 +9,28 @@ use ir_uses::{Use, Uses, uses};
 use std::alloc::Global;
 use std::str::SplitWhitespace;
 
-fn put_spot(line: &mut Line, spot: Spot) -> Result<(), NoMemory> {
-    line.number(u64::from(spot.seg.0))?;
+fn put_spot(line: &mut Line, spot: Spot) {
+    line.number(u64::from(spot.seg.0));
     line.number(u64::from(spot.at))
 }
 
-fn put_uses(line: &mut Line, list: &[Use]) -> Result<(), NoMemory> {
+fn put_uses(line: &mut Line, list: &[Use]) {
     for here in list {
-        put_spot(line, here.spot)?;
-        line.number(u64::from(here.operand))?;
-        line.word(";")?;
+        put_spot(line, here.spot);
+        line.number(u64::from(here.operand));
+        line.word(";");
     }
-    Ok(())
 }
 
-fn put_callers(line: &mut Line, list: &[Spot]) -> Result<(), NoMemory> {
+fn put_callers(line: &mut Line, list: &[Spot]) {
     for here in list {
-        put_spot(line, *here)?;
-        line.word(";")?;
+        put_spot(line, *here);
+        line.word(";");
     }
-    Ok(())
 }
 
 /// The uses of a value, in the lists of its module.
-fn put_of_value(line: &mut Line, m: &Module, u: &Uses, v: u32) -> Result<(), NoMemory>
+fn put_of_value(line: &mut Line, m: &Module, u: &Uses, v: u32)
     requires { AreUsesOf m.now u.now }
 {
     if v as usize >= m.values.len() {
@@ -42,7 +40,7 @@ fn put_of_value(line: &mut Line, m: &Module, u: &Uses, v: u32) -> Result<(), NoM
 }
 
 /// The direct calls of a function, and whether it is open.
-fn put_of_func(line: &mut Line, m: &Module, u: &Uses, f: u32) -> Result<(), NoMemory>
+fn put_of_func(line: &mut Line, m: &Module, u: &Uses, f: u32)
     requires { AreUsesOf m.now u.now }
 {
     if f as usize >= m.funcs.len() {
@@ -52,7 +50,7 @@ fn put_of_func(line: &mut Line, m: &Module, u: &Uses, f: u32) -> Result<(), NoMe
         "open"
     } else {
         "closed"
-    })?;
+    });
     put_callers(line, u.callers(FuncId(f)))
 }
 
@@ -74,9 +72,9 @@ pub(crate) fn ask(
     let number = id(words);
     let u = uses(alloc, m)?;
     if is_of_value {
-        put_of_value(line, m, &u, number)?;
+        put_of_value(line, m, &u, number);
     } else {
-        put_of_func(line, m, &u, number)?;
+        put_of_func(line, m, &u, number);
     }
     Ok(true)
 }

@@ -13,11 +13,29 @@ loop-number-preserved c =
     let words = c.args.words.now in
     let before = c.loop-number.invariant in
     let worker : Worker = c.new.result in
-    let seat = taken_first (IsReady words) c.loop-number.seats.items c.remove.new.self.items c.remove.result (omega (arith, before.0, c.loop-number-test.true, c.len-count.ensures)) c.remove.ensures.value c.remove.ensures.items before.2 in
+    let seat = taken_first (IsReady words) c.loop-number.seats.items c.remove.new.self.items c.remove.result (omega (
+      arith,
+      before.0,
+      c.loop-number-test.true,
+      c.len-count.ensures,
+    )) c.remove.ensures.value c.remove.ensures.items before.2 in
     let own = taken_first (IsPoolOf (count_in words)) c.loop-number.pools.items c.remove-in-loop-number.new.self.items c.remove-in-loop-number.result
-    (omega (arith, before.0, before.3, c.loop-number-test.true, c.len-count.ensures)) c.remove-in-loop-number.ensures.value c.remove-in-loop-number.ensures.items before.4 in
-    let robber = taken_first (IsRobberOf (workers_in words) (count_in words)) c.loop-number.robbers.items c.remove-in-loop-number-2.new.self.items c.remove-in-loop-number-2.result
-    (omega (arith, before.0, before.5, c.loop-number-test.true, c.len-count.ensures)) c.remove-in-loop-number-2.ensures.value c.remove-in-loop-number-2.ensures.items before.6 in
+    (omega (
+      arith,
+      before.0,
+      before.3,
+      c.loop-number-test.true,
+      c.len-count.ensures,
+    )) c.remove-in-loop-number.ensures.value c.remove-in-loop-number.ensures.items before.4 in
+    let robber = taken_first (IsRobberOf (workers_in words) (count_in words)) c.loop-number.robbers.items c.remove-in-loop-number-2.new.self.items
+    c.remove-in-loop-number-2.result
+    (omega (
+      arith,
+      before.0,
+      before.5,
+      c.loop-number-test.true,
+      c.len-count.ensures,
+    )) c.remove-in-loop-number-2.ensures.value c.remove-in-loop-number-2.ensures.items before.6 in
     let is : IsWorkerOf words worker = record {
       ready = subst (IsReady words) (sym c.new.ensures.0) seat.0;
       pool = subst (IsPoolOf (count_in words)) (sym c.new.ensures.1) own.0;

@@ -15,10 +15,13 @@ returns-clause-second c =
     let rest : List WorkerSeat = c.remove-first.new.self.items in
     let two : length seats ≡ 2 = c.requires.seats.0.many ∙ c.requires.seats.1 in
     let same : xs ≡ seats = c.into_vec-seats.ensures in
-    let one : xs ≡ first ∷ rest = first_rest xs first (omega (arith, ap length same, two)) c.remove-first.ensures.value ∙ ap (λ (r : List WorkerSeat). first ∷ r) (sym c.remove-first.ensures.items) in
+    let one : xs ≡ first ∷ rest = first_rest xs first (omega (arith, ap length same, two)) c.remove-first.ensures.value ∙
+    ap (λ (r : List WorkerSeat). first ∷ r) (sym c.remove-first.ensures.items) in
     let other : rest ≡ second ∷ c.remove-second.new.self.items =
-    first_rest rest second (omega (arith, ap length same, two, ap length one)) c.remove-second.ensures.value ∙ ap (λ (r : List WorkerSeat). second ∷ r) (sym c.remove-second.ensures.items) in
+    first_rest rest second (omega (arith, ap length same, two, ap length one)) c.remove-second.ensures.value ∙
+    ap (λ (r : List WorkerSeat). second ∷ r) (sym c.remove-second.ensures.items) in
     let at : slice_get seats 1 ≡ Some second = ap (λ (ss : List WorkerSeat). slice_get ss 1) (sym same ∙ one ∙ ap (λ (r : List WorkerSeat). first ∷ r) other) in
     let mine = c.requires.seats.0.each 1 second at in
-    let fresh : core_of second ≡ new_seat = subst (λ (s : WorkerSeat). core_of s ≡ new_seat) (get_or_from_slice_get seats 1 second second at) (c.requires.fresh 1 second (omega (arith, two))) in
+    let fresh : core_of second ≡ new_seat =
+    subst (λ (s : WorkerSeat). core_of s ≡ new_seat) (get_or_from_slice_get seats 1 second second at) (c.requires.fresh 1 second (omega (arith, two))) in
     (mine.0, mine.1, ap (λ c. c.mode) fresh)
