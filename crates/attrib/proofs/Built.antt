@@ -1,5 +1,6 @@
 -- Which terms the system of a module has at a position.
-use Rattle.std.proofs.Common.{◌≡◌, ◌≢◌, ℕ, zero, suc, ◌+◌, ◌<◌, ◌≤◌, List, [], ◌∷◌, ◌++◌, length, length-set, map, get_or, Some, refl, sym, ap, ◌∙◌, arith, get_or-set_same, get_or-set_other, append_assoc}
+use Rattle.std.proofs.Common.{◌≡◌, ◌≢◌, ℕ, zero, suc, ◌+◌, ◌<◌, ◌≤◌, List, [], ◌∷◌, ◌++◌, length, length-set, map, get_or, Some, refl, sym, ap, ◌∙◌, arith}
+use Rattle.std.proofs.Common.{get_or-set_same, get_or-set_other, append_assoc}
 use Rattle.std.specs.List.{slice_get}
 use Rattle.std.specs.Prelude.{replicate}
 use Rattle.std.proofs.lemmas.List.{length-map, append-nil, length-replicate}
@@ -9,6 +10,7 @@ use Rattle.slice_module.specs.declared.module.Func.{Func}
 use Rattle.slice_module.specs.declared.module.Module.{Module}
 use Rattle.slice_module.specs.Module.{calls_of}
 use Rattle.std.specs.Option.{is_some}
+use Rattle.std.proofs.lemmas.Option.{slice_get_within}
 use Rattle.attrib.specs.Deduced.{bit_of, masks_of, term_of, with_terms, with_functions, system_of}
 
 -- ---- the masks and the number of positions stay
@@ -66,15 +68,11 @@ no_terms zero q = refl
 no_terms (suc n) zero = refl
 no_terms (suc n) (suc q) = no_terms n q
 
-get_length : (fs : List Func) (p : ℕ) (f : Func) → slice_get fs p ≡ Some f → p < length fs
-get_length [] p f e = absurd (cc)
-get_length (g ∷ fs) zero f e = omega arith
-get_length (g ∷ fs) (suc p) f e = omega (arith, get_length fs p f e)
-
 pub terms_of_system : (m : Module) (p : ℕ) (f : Func) → slice_get m.funcs p ≡ Some f → terms_at (system_of m) p ≡ map (term_of m) (calls_of f)
 terms_of_system m p f is =
     functions_at m (with_masks (masks_of m)) 0 p p m.funcs f (omega arith) is
-    (omega (arith, length-replicate (length (masks_of m)) no_list, length-map m.funcs (λ f. bit_of (is_some f.body)), get_length m.funcs p f is)) (λ q _. no_terms (length (masks_of m)) q)
+    (omega (arith, length-replicate (length (masks_of m)) no_list, length-map m.funcs (λ f. bit_of (is_some f.body)), slice_get_within m.funcs p f is))
+    (λ q _. no_terms (length (masks_of m)) q)
 
 pub system_masks : (m : Module) → (system_of m).masks ≡ masks_of m
 system_masks m = functions_masks m (with_masks (masks_of m)) 0 m.funcs

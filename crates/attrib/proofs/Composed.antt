@@ -1,5 +1,6 @@
 -- The greatest words of a module's system hold the greatest set of its facts.
-use Rattle.std.proofs.Common.{◌≡◌, ℕ, zero, suc, ◌+◌, ◌^◌, ◌<◌, ◌≤◌, ◌==◌, Bool, true, false, if◌then◌else◌, bit_and, List, [], ◌∷◌, length, map, slice_index, Some, refl, sym, ap, subst, ◌∙◌, arith, inl, inr}
+use Rattle.std.proofs.Common.{◌≡◌, ℕ, zero, suc, ◌+◌, ◌^◌, ◌<◌, ◌≤◌, ◌==◌, Bool, true, false, if◌then◌else◌, bit_and, List, [], ◌∷◌, length, map, slice_index}
+use Rattle.std.proofs.Common.{Some, refl, sym, ap, subst, ◌∙◌, arith, inl, inr}
 use Rattle.std.specs.List.{slice_get, AllByRecursion}
 use Rattle.std.specs.Option.{is_some}
 use Rattle.std.specs.Int.{bit_at}
@@ -38,14 +39,16 @@ words_at ws q = slice_index ws q
 
 term_bit : (m : Module) (ws : List ℕ) (c : Call) → (bit_at (meaning (words_at ws) (term_of m c)) 0 == 1) ≡ keeps m (held_in ws) c
 term_bit m ws c =
-    elim (is_body m c.callee.0) as (λ v. (bit_at (meaning (words_at ws) (roll-NewTerm (if v then Word (record { 0 = c.callee.0 }) else Const (bit_of (is_promised m c))))) 0 == 1)
+    elim (is_body m c.callee.0) as (λ v. (bit_at (meaning (words_at ws) (roll-NewTerm (if v then Word (record { 0 = c.callee.0 }) else
+    Const (bit_of (is_promised m c))))) 0 == 1)
     ≡ (if v then held_in ws c.callee.0 else is_promised m c)) [
       | true ↦ ap (λ x. bit_at x 0 == 1) (fold-roll-NewTerm ℕ (layer_meaning (words_at ws)) (Word (record { 0 = c.callee.0 })))
       | false ↦ ap (λ x. bit_at x 0 == 1) (fold-roll-NewTerm ℕ (layer_meaning (words_at ws)) (Const (bit_of (is_promised m c)))) ∙ bit_of_test (is_promised m c)
     ]
 
 -- what is left of a position has bit 0 exactly where its mask and each of its terms have it
-left_down : (word : ℕ → ℕ) (a : ℕ) (ts : List NewTerm) → bit_at (meet_of word a ts) 0 ≡ 1 → (bit_at a 0 ≡ 1) × AllByRecursion (λ t. bit_at (meaning word t) 0 ≡ 1) ts
+left_down : (word : ℕ → ℕ) (a : ℕ) (ts : List NewTerm) → bit_at (meet_of word a ts) 0 ≡ 1 → (bit_at a 0 ≡ 1) ×
+    AllByRecursion (λ t. bit_at (meaning word t) 0 ≡ 1) ts
 left_down word a [] h = (h, tt)
 left_down word a (t ∷ ts) h =
     let rest = left_down word (bit_and a (meaning word t)) ts h in
@@ -54,7 +57,8 @@ left_down word a (t ∷ ts) h =
       (omega (arith, rest.0, both, bit_at-lt a 0, bit_at-lt (meaning word t) 0), rest.1),
     )
 
-left_up : (word : ℕ → ℕ) (a : ℕ) (ts : List NewTerm) → bit_at a 0 ≡ 1 → AllByRecursion (λ t. bit_at (meaning word t) 0 ≡ 1) ts → bit_at (meet_of word a ts) 0 ≡ 1
+left_up : (word : ℕ → ℕ) (a : ℕ) (ts : List NewTerm) → bit_at a 0 ≡ 1 → AllByRecursion (λ t. bit_at (meaning word t) 0 ≡ 1) ts →
+    bit_at (meet_of word a ts) 0 ≡ 1
 left_up word a [] h all = h
 left_up word a (t ∷ ts) h all = left_up word (bit_and a (meaning word t)) ts (omega (arith, h, all.0, bit_at_and a (meaning word t) 0)) all.1
 
@@ -94,7 +98,12 @@ facts_support m ws is f h =
       body,
       λ func at'.
           let within : f < length (system_of m).masks = omega (arith, place.3, ap length (system_masks m), length-map m.funcs (λ g. bit_of (is_some g.body))) in
-          let left : bit_at (value_in (system_of m) f ws) 0 ≡ 1 = omega (arith, set, is.supported f within 0 (omega arith), bit_at-lt (value_in (system_of m) f ws) 0) in
+          let left : bit_at (value_in (system_of m) f ws) 0 ≡ 1 = omega (
+            arith,
+            set,
+            is.supported f within 0 (omega arith),
+            bit_at-lt (value_in (system_of m) f ws) 0,
+          ) in
           let terms = (left_down (words_at ws) (slice_index (system_of m).masks f) (terms_at (system_of m) f) left).1 in
           let mine : AllByRecursion (λ t. bit_at (meaning (words_at ws) t) 0 ≡ 1) (map (term_of m) (calls_of func)) =
           subst (AllByRecursion (λ t. bit_at (meaning (words_at ws) t) 0 ≡ 1)) (terms_of_system m f func at') terms in

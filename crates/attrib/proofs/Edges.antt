@@ -1,8 +1,10 @@
 -- The system of a module of the slice has few edges: a function has at most one input for each of its calls.
-use Rattle.std.proofs.Common.{◌≡◌, ℕ, zero, suc, ◌+◌, ◌<◌, ◌≤◌, Bool, true, false, if◌then◌else◌, List, [], ◌∷◌, ◌++◌, length, map, Option, None, Some, refl, sym, ap, subst, ◌∙◌, arith, length-append}
+use Rattle.std.proofs.Common.{◌≡◌, ℕ, zero, suc, ◌+◌, ◌≤◌, Bool, true, false, if◌then◌else◌, List, [], ◌∷◌, ◌++◌, length, map, Option, None, Some, refl, sym}
+use Rattle.std.proofs.Common.{ap, subst, ◌∙◌, arith, length-append}
 use Rattle.std.specs.List.{slice_get, flat_map}
 use Rattle.std.proofs.lemmas.List.{length-map}
 use Rattle.attr_ids.specs.declared.ids.PosId.{PosId}
+use Rattle.shelf.proofs.Shelf.{get_there}
 use Rattle.rule_terms.specs.declared.term.NewTerm.TheOpen.NewTerm-F.{Word, Const}
 use Rattle.rule_terms.specs.declared.term.NewTerm.TheFolds.{fold-roll-NewTerm}
 use Rattle.rule_terms.specs.Names.{layer_names, names_of, has_name, with_name, with_names}
@@ -56,16 +58,11 @@ calls_below : List Func → ℕ → ℕ
 calls_below fs zero = 0
 calls_below fs (suc n) = calls_below fs n + calls_in (slice_get fs n)
 
-get_within : (fs : List Func) (n : ℕ) → n < length fs → (f : Func) × (slice_get fs n ≡ Some f)
-get_within [] n l = absurd (omega arith)
-get_within (f ∷ fs) zero l = (f, refl)
-get_within (f ∷ fs) (suc n) l = get_within fs n (omega arith)
-
 edges_few : (m : Module) (n : ℕ) → n ≤ length m.funcs → edges_below (system_of m) n ≤ calls_below m.funcs n
 unfolding edges_below calls_below calls_in
 edges_few m zero l = omega arith
 edges_few m (suc n) l =
-    let f = get_within m.funcs n (omega arith) in
+    let f = get_there m.funcs n (omega arith) in
     omega (arith, edges_few m n (omega arith), inputs_few m n f.0 f.1, ap calls_in f.1)
 
 -- the calls of the first function, and of those behind it
@@ -85,7 +82,13 @@ calls_mentioned : (fs : List Func) → calls_below fs (length fs) ≤ length (fl
 unfolding calls_below
 calls_mentioned [] = omega arith
 calls_mentioned (f ∷ fs) =
-    omega (arith, calls_first f fs (length fs), body_mentions f, calls_mentioned fs, length-append (mentions (entity_of f)) (flat_map mentions (map entity_of fs)))
+    omega (
+      arith,
+      calls_first f fs (length fs),
+      body_mentions f,
+      calls_mentioned fs,
+      length-append (mentions (entity_of f)) (flat_map mentions (map entity_of fs)),
+    )
 
 -- a module has no more edges than its text has headers and calls
 pub edges_mentioned : (m : Module) → edges_of (system_of m) ≤ length (flat_map mentions (entities_of m))

@@ -1,17 +1,18 @@
 -- The facts by functions and calls are the facts of the resolved module.
-use Rattle.std.proofs.Common.{◌≡◌, ℕ, ◌+◌, ◌==◌, Bool, true, false, if◌then◌else◌, inl, inr, List, All, slice_get, get_or, Option, None, Some, refl, sym, ap, subst, ◌∙◌, arith}
+use Rattle.std.proofs.Common.{◌≡◌, ℕ, ◌+◌, ◌==◌, Bool, true, false, if◌then◌else◌, inl, inr, List, All, slice_get, get_or, Option, None, Some, refl, sym, ap}
+use Rattle.std.proofs.Common.{subst, ◌∙◌, arith}
 use Rattle.std.specs.Option.{is_some}
-use Rattle.std.proofs.lemmas.Option.{slice_get-get_or, slice_get_within}
+use Rattle.std.proofs.lemmas.Option.{slice_get-get_or, slice_get_within, same_Some}
 use Rattle.std.proofs.lemmas.Bool.{and_from, and_parts, eqb-true, false≢true}
 use Rattle.std.proofs.lemmas.Bool.Decides.{eqb_tells}
 use Rattle.lattice_words.specs.declared.function.TheConstants.{NOUNWIND}
+use Rattle.shelf.proofs.Shelf.{get_there}
 use Rattle.ir_module.specs.declared.op.Instr.{Instr}
 use Rattle.ir_module.specs.declared.module.Seg.{Seg}
 use Rattle.ir_module.specs.declared.module.Block.{Block as Run}
 use Rattle.ir_module.specs.declared.module.Spot.{Spot}
 use Rattle.ir_module.specs.Places.{spot, in_seg, instr_at, IsIn}
 use Rattle.ir_module.specs.Calls.{Nounwind, callee_in, inner_callee, direct_callee, is_promised}
-use Rattle.ir_module.proofs.Runs.{there as is_there}
 use Rattle.facts.specs.declared.pos.Pos.{Pos}
 use Rattle.facts.specs.declared.pos.Pos.TheVariants as pos
 use Rattle.facts.specs.Kinds.{NoUnwind}
@@ -35,9 +36,6 @@ use Rattle.slice_facts.specs.Facts.{has_body, is_body}
 use Rattle.slice_facts.proofs.Direct.{body_same, direct, inner_same, promised_same}
 use Rattle.attrib.specs.Deduced.{facts_of}
 use Rattle.attrib.proofs.Facts.{keeps, SupportsItself, IsGreatest}
-
-some_is : {A : Type 0} {x y : A} → Some x ≡ Some y → x ≡ y
-some_is e = cc
 
 module _ (b : List ℕ) (m : Module) (accepted : Accepted b m) (F : Fact → Bool) where
   abbrev mine : ℕ → Bool
@@ -65,7 +63,7 @@ module _ (b : List ℕ) (m : Module) (accepted : Accepted b m) (F : Fact → Boo
   keeps_same : (f j : ℕ) (g : Func) (block : Block) (c : Call) → slice_get m.funcs f ≡ Some g → g.body ≡ Some block → slice_get block.calls j ≡ Some c →
       call_has (resolved b m) F NoUnwind (call_instr c).op ≡ keeps m mine c
   keeps_same f j g block c at body call =
-      let callee = is_there m.funcs c.callee.0 (callee_within m b accepted f j g block c at body call) in
+      let callee = get_there m.funcs c.callee.0 (callee_within m b accepted f j g block c at body call) in
       keeps_there c callee.0 callee.1
 
   -- ---- from the resolved module to functions and calls
@@ -130,7 +128,7 @@ module _ (b : List ℕ) (m : Module) (accepted : Accepted b m) (held : ℕ → B
   instr_kept f s instr within at h =
       let t : There m s.seg.0 within.seg = there m s.seg.0 within.seg within.at_seg in
       let block : within.block ≡ run_of (0 + t.place.f) (seg_at 0 m.funcs t.place.f) t.place.b =
-      some_is (sym within.at_block ∙ block_there m s.seg.0 within.seg t) in
+      same_Some _ _ (sym within.at_block ∙ block_there m s.seg.0 within.seg t) in
       let f_is : t.place.f ≡ f = omega (arith, within.in_func, ap (λ (r : Run). r.func.0) block) in
       let found : slice_get within.seg.instrs s.at ≡ Some instr = sym (ap (in_seg s.at) within.at_seg) ∙ at in
       let one = one_instr m s.seg.0 s.at within.seg instr t found in

@@ -1,11 +1,13 @@
 -- A sweep so far: what the words are after the first positions were cut.
-use Rattle.std.proofs.Common.{◌≡◌, ◌≢◌, ℕ, zero, suc, [], ◌∷◌, set, ◌+◌, ◌^◌, ◌<◌, ◌≤◌, ◌==◌, Bool, true, false, not, bit_and, List, length, length-set, sum, All, slice_index, refl, sym, ap, subst, ◌∙◌, arith, inl, inr, get_or-set_same, get_or-set_other}
+use Rattle.std.proofs.Common.{◌≡◌, ◌≢◌, ℕ, zero, suc, [], ◌∷◌, set, ◌+◌, ◌^◌, ◌<◌, ◌≤◌, ◌==◌, Bool, true, false, not, bit_and, List, length, length-set, sum}
+use Rattle.std.proofs.Common.{All, slice_index, refl, sym, ap, subst, ◌∙◌, arith, inl, inr, get_or-set_same, get_or-set_other}
 use Rattle.std.proofs.lemmas.Bool.{cases_eq, cases_lt}
 use Rattle.std.proofs.lemmas.Bool.Decides.{nat_tests}
+use Rattle.lattice_words.proofs.WordBits.{within_refl, within_trans}
 use Rattle.lattice_words.specs.Words.{IsWithin}
 use Rattle.rule_terms.specs.System.{System, IsSystem, value_in}
 use Rattle.rule_terms.specs.Greatest.{AreWithin, IsAbove, IsCut, IsGreatest, Supports}
-use Rattle.rule_terms.proofs.Greatest.{within_refl, within_trans, cut_above, greatest_from_above}
+use Rattle.rule_terms.proofs.Greatest.{cut_above, greatest_from_above}
 
 abbrev pub AreSmall : List ℕ → Type 0
 AreSmall words = All (λ word. word < 2 ^ 64) words
@@ -72,7 +74,8 @@ swept_kept s old words new fell p w e small here = subst (λ (xs : List ℕ). Sw
   less = w.less;
   fits = λ q l. elim (cases_lt q p) [
     | inl before ↦ w.fits q before
-    | inr past ↦ let last : q ≡ p = omega arith in subst (λ i. slice_index words i < 2 ^ 64) (sym last) (subst (λ (xs : List ℕ). slice_index xs p < 2 ^ 64) e small)
+    | inr past ↦ let last : q ≡ p = omega arith in
+        subst (λ i. slice_index words i < 2 ^ 64) (sym last) (subst (λ (xs : List ℕ). slice_index xs p < 2 ^ 64) e small)
   ];
   smaller = w.smaller;
   same = w.same;

@@ -1,5 +1,6 @@
 -- The sum that the budget is.
-use Rattle.std.proofs.Common.{◌≡◌, ℕ, ◌+◌, ◌*◌, ◌^◌, ◌<◌, ◌≤◌, List, length, get_or, take, sum_by, zip, count_ones, ap, ◌∙◌, arith, le_refl, mul-le-mul, take_all, All, [], ◌∷◌}
+use Rattle.std.proofs.Common.{◌≡◌, ℕ, ◌+◌, ◌*◌, ◌^◌, ◌<◌, ◌≤◌, List, length, get_or, take, sum_by, zip, count_ones, ap, ◌∙◌, arith, le_refl, mul-le-mul}
+use Rattle.std.proofs.Common.{take_all, All, [], ◌∷◌}
 use Rattle.std.proofs.lemmas.List.Sums.{sum_by_more, sum_by-take-le, sum_by-cons}
 use Rattle.std.proofs.lemmas.List.Elements.{All-head, All-tail}
 use Rattle.std.proofs.lemmas.Nat.{ones-le}
@@ -35,13 +36,15 @@ module _ (masks : List ℕ) (graph : List Row) (p : ℕ) (l : p < length masks) 
 pub retaken-le : (mask : ℕ) (row : Row) → mask < 2 ^ 64 → retaken mask row ≤ 64 * length row.dependents
 retaken-le mask row fits = let bits : count_ones mask ≤ 64 = ones-le 64 mask fits in mul-le-mul bits (le_refl (length row.dependents))
 
-pub cost_whole : (masks : List ℕ) (graph : List Row) → length graph ≡ length masks → cost_below masks graph (length masks) ≡ sum_by (λ x. retaken x.0 x.1) (zip masks graph)
+pub cost_whole : (masks : List ℕ) (graph : List Row) → length graph ≡ length masks →
+    cost_below masks graph (length masks) ≡ sum_by (λ x. retaken x.0 x.1) (zip masks graph)
 cost_whole masks graph long =
     let all : length (zip masks graph) ≤ length masks = omega (arith, length-zip masks graph) in
     ap (sum_by (λ (x : ℕ × Row). retaken x.0 x.1)) (take_all (length masks) (zip masks graph) all)
 
 -- masks of facts
-whole_cost-le : (masks : List ℕ) (graph : List Row) → All (λ mask. mask < 2 ^ FACT_BITS) masks → sum_by (λ x. retaken x.0 x.1) (zip masks graph) ≤ FACT_BITS * edge_count graph
+whole_cost-le : (masks : List ℕ) (graph : List Row) → All (λ mask. mask < 2 ^ FACT_BITS) masks →
+    sum_by (λ x. retaken x.0 x.1) (zip masks graph) ≤ FACT_BITS * edge_count graph
 whole_cost-le [] graph facts = omega arith
 whole_cost-le (mask ∷ masks) [] facts = omega arith
 whole_cost-le (mask ∷ masks) (row ∷ graph) facts =

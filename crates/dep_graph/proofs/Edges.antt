@@ -21,6 +21,7 @@ edges_below-le s is (suc p) = rw suc-mul (omega (arith, edges_below-le s is p, i
 pub edges_fit : (s : System) → IsSystem s → (p : ℕ) → p < length s.masks → edges_below s p + length (inputs_of s p) < 2 ^ 64
 edges_fit s is p l =
     let n = length s.masks in
-    let all : suc p * n ≤ (2 ^ 32 - 1) * (2 ^ 32 - 1) = let most : n ≤ 2 ^ 32 - 1 = omega (arith, is.fits) in let rows : suc p ≤ 2 ^ 32 - 1 = omega (arith, is.fits) in mul-le-mul rows most in
+    let all : suc p * n ≤ (2 ^ 32 - 1) * (2 ^ 32 - 1) = let most : n ≤ 2 ^ 32 - 1 = omega (arith, is.fits) in let rows : suc p ≤ 2 ^ 32 - 1 =
+    omega (arith, is.fits) in mul-le-mul rows most in
     let row : suc p * n ≡ p * n + n = suc-mul p n in
     omega (arith, all, row, edges_below-le s is p, inputs_few s is p)

@@ -1,5 +1,6 @@
 -- Entering the inputs of one position, one after another.
-use Rattle.std.proofs.Common.{◌≡◌, ℕ, ◌+◌, ◌<◌, Bool, true, false, cond, if◌then◌else◌, ◌==◌, List, [], ◌∷◌, ◌++◌, length, get_or, set, take, refl, subst, ap, sym, ◌∙◌, arith, inl, inr, length-append, length-set, get_or-set_same, get_or-set_other}
+use Rattle.std.proofs.Common.{◌≡◌, ℕ, ◌+◌, ◌<◌, Bool, true, false, cond, if◌then◌else◌, ◌==◌, List, [], ◌∷◌, ◌++◌, length, get_or, set, take, refl, subst, ap}
+use Rattle.std.proofs.Common.{sym, ◌∙◌, arith, inl, inr, length-append, length-set, get_or-set_same, get_or-set_other}
 use Rattle.std.proofs.lemmas.Bool.Decides.{eqb_tells}
 use Rattle.std.proofs.lemmas.List.{take_more}
 use Rattle.std.proofs.lemmas.List.Sums.{sum_by-set}
@@ -33,7 +34,8 @@ entered_more inputs reads d row q i z l =
 abbrev pub AreEntered : List PosId → (ℕ → ℕ) → PosId → List Row → List Row → ℕ → Type 0
 AreEntered inputs reads d before rows i = (q : ℕ) → q < length rows → row_at rows q ≡ entered (take i inputs) reads d (row_at before q) q
 
-pub entered_next : (inputs : List PosId) (reads : ℕ → ℕ) (d : PosId) (before rows : List Row) (i at : ℕ) (z : PosId) → i < length inputs → at ≡ (get_or inputs i z).0 → at < length rows →
+pub entered_next : (inputs : List PosId) (reads : ℕ → ℕ) (d : PosId) (before rows : List Row) (i at : ℕ) (z : PosId) → i < length inputs →
+    at ≡ (get_or inputs i z).0 → at < length rows →
     AreEntered inputs reads d before rows i → AreEntered inputs reads d before (set rows at (added (row_at rows at) d (reads at))) (i + 1)
 unfolding entered_step
 entered_next inputs reads d before rows i at z l is on so_far q inside =
@@ -46,15 +48,18 @@ entered_next inputs reads d before rows i at z l is on so_far q inside =
           get_or-set_same rows at (added (row_at rows at) d (reads at)) empty_row on ∙
           ap (λ n. added (row_at rows n) d (reads n)) e ∙
           ap (λ row. added row d (reads q)) (so_far q within) ∙
-          sym (more ∙ ap (λ b. cond b (added (entered (take i inputs) reads d (row_at before q) q) d (reads q)) (entered (take i inputs) reads d (row_at before q) q)) test)
+          sym (more ∙ ap (λ b. cond b (added (entered (take i inputs) reads d (row_at before q) q) d (reads q))
+          (entered (take i inputs) reads d (row_at before q) q)) test)
       | inr (other, ne) ↦
           let test : ((get_or inputs i z).0 == q) ≡ false = ap (λ n. n == q) (sym is) ∙ other in
           get_or-set_other rows at q (added (row_at rows at) d (reads at)) empty_row (λ e. ne (sym e)) ∙ so_far q within ∙
-          sym (more ∙ ap (λ b. cond b (added (entered (take i inputs) reads d (row_at before q) q) d (reads q)) (entered (take i inputs) reads d (row_at before q) q)) test)
+          sym (more ∙ ap (λ b. cond b (added (entered (take i inputs) reads d (row_at before q) q) d (reads q))
+          (entered (take i inputs) reads d (row_at before q) q)) test)
     ]
 
 -- one more entry in one row is one more edge
-pub edge_count-set : (rows : List Row) (at bits : ℕ) (d : PosId) → at < length rows → edge_count (set rows at (added (row_at rows at) d bits)) ≡ edge_count rows + 1
+pub edge_count-set : (rows : List Row) (at bits : ℕ) (d : PosId) → at < length rows →
+    edge_count (set rows at (added (row_at rows at) d bits)) ≡ edge_count rows + 1
 edge_count-set rows at bits d l =
     let row = row_at rows at in
     let e = sum_by-set (λ (r : Row). length r.dependents) rows at (added row d bits) empty_row l in

@@ -1,5 +1,6 @@
 -- What holds of the inputs of each position of a system.
-use Rattle.std.proofs.Common.{◌≡◌, ℕ, suc, ◌<◌, ◌≤◌, Bool, true, false, eqb, ◌&&◌, List, [], ◌∷◌, ◌++◌, length, nat_lt, All, IsTrue, refl, ap, sym, ◌∙◌, arith, subst, inl, inr, eqb-true}
+use Rattle.std.proofs.Common.{◌≡◌, ℕ, suc, ◌<◌, ◌≤◌, Bool, true, false, eqb, ◌&&◌, List, [], ◌∷◌, ◌++◌, length, nat_lt, All, IsTrue, refl, ap, sym, ◌∙◌, arith}
+use Rattle.std.proofs.Common.{subst, inl, inr, eqb-true}
 use Rattle.std.specs.Cmp.{IsEquivalence}
 use Rattle.std.specs.List.{AllByRecursion, IsDistinct, list_any, flat_map}
 use Rattle.std.proofs.lemmas.Bool.{or_cases, and_parts, ltb-true, cases_lt, cond_both}
@@ -26,7 +27,8 @@ same_equivalence = record { refl = λ x. nat_eq_equiv.refl x.0; symm = λ x y. n
 
 -- ---- a list of names in which each stands once
 with_name-distinct : (names : List PosId) (p : PosId) → IsDistinct same names → IsDistinct same (with_name names p)
-with_name-distinct names p distinct = cond_both (has_name names p) names (names ++ p ∷ []) (IsDistinct same) (λ _. distinct) (λ new. IsDistinct-push same_equivalence names p distinct new)
+with_name-distinct names p distinct =
+    cond_both (has_name names p) names (names ++ p ∷ []) (IsDistinct same) (λ _. distinct) (λ new. IsDistinct-push same_equivalence names p distinct new)
 
 with_names-distinct : (names more : List PosId) → IsDistinct same names → IsDistinct same (with_names names more)
 with_names-distinct names [] distinct = distinct
@@ -39,7 +41,8 @@ with_names-within : (n : ℕ) (names more : List PosId) → Within n names → W
 with_names-within n names [] old new = old
 with_names-within n names (p ∷ ps) old new =
     with_names-within n (with_name names p) ps
-    (cond_both (has_name names p) names (names ++ p ∷ []) (Within n) (λ _. old) (λ _. All-push (λ (q : PosId). q.0 < n) names p old (All-head (λ (q : PosId). q.0 < n) p ps new)))
+    (cond_both (has_name names p) names (names ++ p ∷ []) (Within n) (λ _. old)
+    (λ _. All-push (λ (q : PosId). q.0 < n) names p old (All-head (λ (q : PosId). q.0 < n) p ps new)))
     (All-tail (λ (q : PosId). q.0 < n) p ps new)
 
 one_within : (n : ℕ) (p : PosId) → p.0 < n → Within n (p ∷ [])
@@ -54,15 +57,18 @@ module _ (n : ℕ) where
   NamesWithin t = is_over n t ≡ true → Within n (names_of t)
 
   -- a term by its layer
-  by_layer : (x : NewTerm-F NewTerm) → (is_layer_over n (map-NewTerm NewTerm Bool (is_over n) x) ≡ true → Within n (layer_names (map-NewTerm NewTerm (List PosId) names_of x))) → NamesWithin (roll-NewTerm x)
+  by_layer : (x : NewTerm-F NewTerm) → (is_layer_over n (map-NewTerm NewTerm Bool (is_over n) x) ≡ true →
+      Within n (layer_names (map-NewTerm NewTerm (List PosId) names_of x))) → NamesWithin (roll-NewTerm x)
   by_layer x h over =
       subst (Within n) (sym (fold-roll-NewTerm (List PosId) layer_names x)) (h (sym (fold-roll-NewTerm Bool (is_layer_over n) x) ∙ over))
 
   layers : (y : NewTerm-F ((t : NewTerm) × NamesWithin t)) → NamesWithin (roll-NewTerm (map-NewTerm ((t : NewTerm) × NamesWithin t) NewTerm (λ e. e.0) y))
   layers (Const bits) = by_layer (Const bits) (λ over. All-nil (λ (q : PosId). q.0 < n))
   layers (Word p) = by_layer (Word p) (λ over. one_within n p (ltb-true p.0 n over))
-  layers (And left right) = by_layer (And left.0 right.0) (λ over. let parts = and_parts (is_over n left.0) (is_over n right.0) over in both_within n (names_of left.0) (names_of right.0) (left.1 parts.0) (right.1 parts.1))
-  layers (Or left right) = by_layer (Or left.0 right.0) (λ over. let parts = and_parts (is_over n left.0) (is_over n right.0) over in both_within n (names_of left.0) (names_of right.0) (left.1 parts.0) (right.1 parts.1))
+  layers (And left right) = by_layer (And left.0 right.0) (λ over. let parts = and_parts (is_over n left.0) (is_over n right.0) over in
+      both_within n (names_of left.0) (names_of right.0) (left.1 parts.0) (right.1 parts.1))
+  layers (Or left right) = by_layer (Or left.0 right.0) (λ over. let parts = and_parts (is_over n left.0) (is_over n right.0) over in
+      both_within n (names_of left.0) (names_of right.0) (left.1 parts.0) (right.1 parts.1))
   layers (Unless input bit then') = by_layer (Unless input bit then'.0) (λ over.
       let outer = and_parts (nat_lt input.0 n && nat_lt bit 64) (is_over n then'.0) over in
       let inside = ltb-true input.0 n (and_parts (nat_lt input.0 n) (nat_lt bit 64) outer.0).0 in
@@ -85,7 +91,8 @@ module _ (n : ℕ) where
 terms_over : (s : System) → IsSystem s → (p : ℕ) → All (λ term. IsTrue (is_over (length s.masks) term)) (terms_at s p)
 terms_over s is p = elim (cases_lt p (length s.terms)) [
   | inl on ↦ All-get_or (λ terms. All (λ term. IsTrue (is_over (length s.masks) term)) terms) s.terms p [] on is.over
-  | inr past ↦ subst (λ terms. All (λ term. IsTrue (is_over (length s.masks) term)) terms) (sym (get_or_past s.terms p [] past)) (All-nil (λ term. IsTrue (is_over (length s.masks) term)))
+  | inr past ↦ subst (λ terms. All (λ term. IsTrue (is_over (length s.masks) term)) terms) (sym (get_or_past s.terms p [] past))
+      (All-nil (λ term. IsTrue (is_over (length s.masks) term)))
 ]
 
 -- each input is a position of the system
@@ -133,5 +140,7 @@ numbers_within n (p ∷ ps) h q e = elim (or_cases (eqb q p.0) (list_any (eqb q)
 pub inputs_few : (s : System) → IsSystem s → (p : ℕ) → length (inputs_of s p) ≤ length s.masks
 inputs_few s is p =
     let ps = inputs_of s p in
-    let few : length (numbers ps) ≤ length s.masks = length-le_from_distinct_below (numbers ps) (length s.masks) (distinct_numbers ps (inputs_distinct s p)) (numbers_within (length s.masks) ps (inputs_within s is p)) in
+    let few : length (numbers ps) ≤ length s.masks =
+    length-le_from_distinct_below (numbers ps) (length s.masks) (distinct_numbers ps (inputs_distinct s p))
+    (numbers_within (length s.masks) ps (inputs_within s is p)) in
     omega (arith, few, length-numbers ps)

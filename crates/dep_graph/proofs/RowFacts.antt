@@ -1,13 +1,16 @@
 -- The row that entering all positions gives is the inverse of the inputs.
-use Rattle.std.proofs.Common.{◌≡◌, ℕ, zero, suc, ◌+◌, ◌-◌, ◌<◌, ◌⊎◌, true, false, if◌then◌else◌, eqb, List, [], ◌∷◌, ◌++◌, length, get_or, slice_get, slice_index, Some, Contains, All, refl, ap, sym, ◌∙◌, subst, arith, inl, inr, add-one, length-append, ne_eqb, eq-eqb, le_refl}
+use Rattle.std.proofs.Common.{◌≡◌, ℕ, zero, suc, ◌+◌, ◌-◌, ◌<◌, ◌⊎◌, true, false, if◌then◌else◌, eqb, List, [], ◌∷◌, ◌++◌, length, get_or, slice_get}
+use Rattle.std.proofs.Common.{slice_index, Some, Contains, All, refl, ap, sym, ◌∙◌, subst, arith, inl, inr, add-one, length-append, ne_eqb, eq-eqb, le_refl}
 use Rattle.std.specs.List.{AllByRecursion, IsDistinct}
 use Rattle.std.proofs.lemmas.Bool.{cases_lt, eqb-false}
 use Rattle.std.proofs.lemmas.Bool.Decides.{eqb_tells}
 use Rattle.std.proofs.lemmas.List.{get_or_append_left, get_or-append_right}
-use Rattle.std.proofs.lemmas.List.Elements.{All-contains, All-from_recursion, All-push, All-weaker, All-get_or, Contains-append_left, Contains-append_right, Contains-get_or, Contains-push, Contains-push_cases}
+use Rattle.std.proofs.lemmas.List.Elements.{All-contains, All-from_recursion, All-push, All-weaker, All-get_or, Contains-append_left, Contains-append_right}
+use Rattle.std.proofs.lemmas.List.Elements.{Contains-get_or, Contains-push, Contains-push_cases}
 use Rattle.std.proofs.lemmas.List.Quantifiers.{all_pairs_push}
-use Rattle.std.proofs.lemmas.Option.{slice_get_within, same_Some, none-some}
+use Rattle.std.proofs.lemmas.Option.{slice_get_within, none-some}
 use Rattle.attr_ids.specs.declared.ids.PosId.{PosId}
+use Rattle.shelf.proofs.Shelf.{get_push}
 use Rattle.dep_graph.specs.Row.{Row}
 use Rattle.dep_graph.specs.Graph.{empty_row, IsRow}
 use Rattle.dep_graph.specs.Rows.{added, entered, row_below}
@@ -17,7 +20,8 @@ pub row_below-none : (inputs : ℕ → List PosId) (reads : ℕ → ℕ → ℕ)
 unfolding row_below
 row_below-none inputs reads q = refl
 
-pub row_below-more : (inputs : ℕ → List PosId) (reads : ℕ → ℕ → ℕ) (d q : ℕ) → row_below inputs reads (d + 1) q ≡ entered (inputs d) (reads d) (record { 0 = d }) (row_below inputs reads d q) q
+pub row_below-more : (inputs : ℕ → List PosId) (reads : ℕ → ℕ → ℕ) (d q : ℕ) →
+    row_below inputs reads (d + 1) q ≡ entered (inputs d) (reads d) (record { 0 = d }) (row_below inputs reads d q) q
 unfolding row_below
 row_below-more inputs reads d q = rw add-one refl
 
@@ -36,7 +40,8 @@ apart_after p (y ∷ ps) q e h = (ne_eqb y.0 q (λ is. eqb-false p.0 y.0 h.0 (e 
 -- either q is no input, or it is one, and then it gets one entry
 EntersOnce : List PosId → (ℕ → ℕ) → PosId → Row → PosId → Type 0
 EntersOnce ps reads d row q =
-    (AllByRecursion (λ p. eqb p.0 q.0 ≡ false) ps × (entered ps reads d row q.0 ≡ row)) ⊎ (Contains ps q × (entered ps reads d row q.0 ≡ added row d (reads q.0)))
+    (AllByRecursion (λ p. eqb p.0 q.0 ≡ false) ps × (entered ps reads d row q.0 ≡ row)) ⊎ (Contains ps q ×
+    (entered ps reads d row q.0 ≡ added row d (reads q.0)))
 
 enters_once : (ps : List PosId) (reads : ℕ → ℕ) (d : PosId) (row : Row) (q : PosId) → IsDistinct same ps → EntersOnce ps reads d row q
 unfolding EntersOnce IsDistinct entered
@@ -50,20 +55,12 @@ enters_once (p ∷ ps) reads d row q distinct = elim (eqb_tells p.0 q.0) [
             entered-apart ps reads d (added row d (reads q.0)) q.0 (apart_after p ps q.0 e distinct.0),
       )
   | inr (other, ne) ↦
-      let skip : entered (p ∷ ps) reads d row q.0 ≡ entered ps reads d row q.0 = ap (λ b. entered ps reads d (if b then added row d (reads q.0) else row) q.0) other in
+      let skip : entered (p ∷ ps) reads d row q.0 ≡ entered ps reads d row q.0 =
+      ap (λ b. entered ps reads d (if b then added row d (reads q.0) else row) q.0) other in
       elim (enters_once ps reads d row q distinct.1) [
         | inl (apart, is) ↦ inl ((other, apart), skip ∙ is)
         | inr (has, is) ↦ inr (Contains-append_right (p ∷ []) ps q has, skip ∙ is)
       ]
-]
-
-get_push_cases : (xs : List PosId) (y x : PosId) (j : ℕ) → slice_get (xs ++ y ∷ []) j ≡ Some x → (slice_get xs j ≡ Some x) ⊎ ((j ≡ length xs) × (y ≡ x))
-get_push_cases [] y x zero e = inr (refl, same_Some y x e)
-get_push_cases [] y x (suc j) e = absurd (none-some x e)
-get_push_cases (z ∷ xs) y x zero e = inl e
-get_push_cases (z ∷ xs) y x (suc j) e = elim (get_push_cases xs y x j e) [
-  | inl before ↦ inl before
-  | inr (last, is) ↦ inr (ap suc last, is)
 ]
 
 same_itself : (q : PosId) → same q q ≡ false → ⊥
@@ -91,7 +88,8 @@ module _ (inputs : ℕ → List PosId) (reads : ℕ → ℕ → ℕ) (q : PosId)
       | inr last ↦
           let e : d.0 ≡ n = omega arith in
           let here : Contains (inputs n) q = subst (λ k. Contains (inputs k) q) e named in
-          absurd (same_itself q (All-contains (λ (p : PosId). eqb p.0 q.0 ≡ false) (inputs n) q (All-from_recursion (λ (p : PosId). eqb p.0 q.0 ≡ false) (inputs n) apart) here))
+          absurd (same_itself q (All-contains (λ (p : PosId). eqb p.0 q.0 ≡ false) (inputs n) q (All-from_recursion (λ (p : PosId). eqb p.0 q.0 ≡ false)
+          (inputs n) apart) here))
     ]
 
   -- q is an input of the position n
@@ -99,11 +97,13 @@ module _ (inputs : ℕ → List PosId) (reads : ℕ → ℕ → ℕ) (q : PosId)
   row_with n row so_far named_last = record {
     is_row = record {
       dependents = λ d. (λ has. forth d (Contains-push_cases row.dependents last d has), λ (l, named). back d l named);
-      rising = all_pairs_push (λ (d e : PosId). d.0 < e.0) row.dependents last so_far.is_row.rising (λ k d l. All-get_or (λ (x : PosId). x.0 < n) row.dependents k d l so_far.below);
+      rising = all_pairs_push (λ (d e : PosId). d.0 < e.0) row.dependents last so_far.is_row.rising (λ k d l. All-get_or (λ (x : PosId). x.0 < n) row.dependents
+          k d l so_far.below);
       long = length-append row.reads (reads n q.0 ∷ []) ∙ ap (λ m. m + 1) so_far.is_row.long ∙ sym (length-append row.dependents (last ∷ []));
-      bits = λ j d at. bits_at j d (get_push_cases row.dependents last d j at);
+      bits = λ j d at. bits_at j d (get_push row.dependents last d j at);
     };
-    below = All-push (λ (d : PosId). d.0 < suc n) row.dependents last (All-weaker (λ (d : PosId). d.0 < n) (λ (d : PosId). d.0 < suc n) (λ d l. omega arith) row.dependents so_far.below) (omega arith);
+    below = All-push (λ (d : PosId). d.0 < suc n) row.dependents last (All-weaker (λ (d : PosId). d.0 < n) (λ (d : PosId). d.0 < suc n) (λ d l. omega arith)
+        row.dependents so_far.below) (omega arith);
   } where
     last : PosId
     last = record { 0 = n }
@@ -121,7 +121,8 @@ module _ (inputs : ℕ → List PosId) (reads : ℕ → ℕ → ℕ) (q : PosId)
           subst (λ x. Contains (row.dependents ++ last ∷ []) x) is (Contains-push row.dependents last)
     ]
 
-    bits_at : (j : ℕ) (d : PosId) → (slice_get row.dependents j ≡ Some d) ⊎ ((j ≡ length row.dependents) × (last ≡ d)) → slice_index (row.reads ++ reads n q.0 ∷ []) j ≡ reads d.0 q.0
+    bits_at : (j : ℕ) (d : PosId) → (slice_get row.dependents j ≡ Some d) ⊎ ((j ≡ length row.dependents) × (last ≡ d)) →
+        slice_index (row.reads ++ reads n q.0 ∷ []) j ≡ reads d.0 q.0
     bits_at j d (inl before) =
         let l : j < length row.reads = omega (arith, slice_get_within row.dependents j d before, so_far.is_row.long) in
         get_or_append_left row.reads (reads n q.0 ∷ []) 0 j l ∙ so_far.is_row.bits j d before

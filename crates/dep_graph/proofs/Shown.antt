@@ -33,6 +33,7 @@ shown-empty (suc n) =
     λ i. empty_row ∷ rest i
 
 -- one more position in a list is one more dependent in its row
-pub shown_more : (rows : List EdgeRow) (at : ℕ) (d : PosId) (bits : ℕ) → shown (set rows at (with_edge (edges_at rows at) d bits)) ≡ set (shown rows) at (added (row_at (shown rows) at) d bits)
+pub shown_more : (rows : List EdgeRow) (at : ℕ) (d : PosId) (bits : ℕ) →
+    shown (set rows at (with_edge (edges_at rows at) d bits)) ≡ set (shown rows) at (added (row_at (shown rows) at) d bits)
 shown_more rows at d bits =
     shown-set rows at (with_edge (edges_at rows at) d bits) ∙ ap (λ (row : Row). set (shown rows) at (added row d bits)) (sym (shown_at rows at))

@@ -1,5 +1,6 @@
 -- Which positions a position's word is read by, as the inverse of the inputs.
-use Rattle.std.specs.Prelude.{◌≡◌, ℕ, zero, suc, ◌+◌, ◌*◌, ◌<◌, ◌≤◌, ◌↔◌, List, [], length, slice_get, slice_index, slice_index_or, Some, Contains, AllPairs, count_ones, sum_by, zip}
+use Rattle.std.specs.Prelude.{◌≡◌, ℕ, zero, suc, ◌+◌, ◌*◌, ◌<◌, ◌≤◌, ◌↔◌, List, [], length, slice_get, slice_index, slice_index_or, Some, Contains, AllPairs}
+use Rattle.std.specs.Prelude.{count_ones, sum_by, zip}
 use Rattle.attr_ids.specs.declared.ids.PosId.{PosId}
 use Rattle.rule_terms.specs.System.{System, inputs_of}
 use Rattle.rule_terms.specs.Reads.{reads_by}

@@ -55,7 +55,8 @@ fn enter(rows: &mut EdgeRows, s: &System, d: PosId) -> Result<(), NoMemory>
     requires position { d.0 < length s.now.masks }
     requires long { length rows.old ≡ length s.now.masks }
     ensures long { OnOk result (length rows.new ≡ length rows.old) }
-    ensures rows { OnOk result ((q : ℕ) → q < length rows.old → row_at (shown rows.new) q ≡ entered (inputs_of s.now d.0) (reads_by s.now d.0) d (row_at (shown rows.old) q) q) }
+    ensures rows { OnOk result ((q : ℕ) → q < length rows.old →
+        row_at (shown rows.new) q ≡ entered (inputs_of s.now d.0) (reads_by s.now d.0) d (row_at (shown rows.old) q) q) }
     ensures count { OnOk result (edge_count (shown rows.new) ≡ edge_count (shown rows.old) + length (inputs_of s.now d.0)) }
 {
     for (i, q) in s.inputs(d).iter().enumerate() {
@@ -68,7 +69,8 @@ fn enter(rows: &mut EdgeRows, s: &System, d: PosId) -> Result<(), NoMemory>
 fn enter_all(rows: &mut EdgeRows, s: &System) -> Result<(), NoMemory>
     requires { rows.old ≡ replicate (length s.now.masks) empty_edges }
     ensures long { OnOk result (length rows.new ≡ length s.now.masks) }
-    ensures rows { OnOk result ((q : ℕ) → q < length s.now.masks → row_at (shown rows.new) q ≡ row_below (inputs_of s.now) (reads_by s.now) (length s.now.masks) q) }
+    ensures rows { OnOk result ((q : ℕ) → q < length s.now.masks →
+        row_at (shown rows.new) q ≡ row_below (inputs_of s.now) (reads_by s.now) (length s.now.masks) q) }
     ensures count { OnOk result (edge_count (shown rows.new) ≡ edges_of s.now) }
 {
     for d in 0..s.count() {

@@ -4,7 +4,8 @@ use Rattle.std.specs.List.{AllByRecursion}
 use Rattle.ir_module.specs.declared.attrs.MemoryAttr.{MemoryAttr}
 use Rattle.ir_module.specs.declared.module.Param.{Param}
 use Rattle.ir_module.specs.declared.module.Module.{Module}
-use Rattle.facts.specs.Kinds.{Access, Read as Reads, Write as Writes, Location, Default, Argmem, Inaccessible, NoUnwind, NoReturn, NoFree, NoAccess, UseFact, CapturedByReturnAlone, NotReturned, NotThrough, use_bit}
+use Rattle.facts.specs.Kinds.{Access, Read as Reads, Write as Writes, Location, Default, Argmem, Inaccessible, NoUnwind, NoReturn, NoFree, NoAccess, UseFact}
+use Rattle.facts.specs.Kinds.{CapturedByReturnAlone, NotReturned, NotThrough, use_bit}
 use Rattle.facts.specs.Bodies.{body_count, IsBodyNumber, param_of}
 use Rattle.facts.specs.Facts.{Fact, dead, of_function, of_value, at_entry, of_return, unreached_by}
 use Rattle.ir_machine.specs.declared.choice.Byte.{Byte}

@@ -1,7 +1,8 @@
 -- What facts say of values: of a frame's, at entry and at return, by the bits that are held.
 use Rattle.std.specs.Prelude.{◌≡◌, ◌≢◌, ℕ, Bool, true, false, slice_get, Option, None, Some}
 use Rattle.std.specs.List.{AllByRecursion}
-use Rattle.facts.specs.Kinds.{ValueFact, SameAs, NonNull, AlignedTo, HasBytes as Bytes, NotTo, UsedSo, BlockClass, OwnAlloca, Argument, Global, Unknown, class_bit, value_fact}
+use Rattle.facts.specs.Kinds.{ValueFact, SameAs, NonNull, AlignedTo, HasBytes as Bytes, NotTo, UsedSo, BlockClass, OwnAlloca, Argument, Global, Unknown}
+use Rattle.facts.specs.Kinds.{class_bit, value_fact}
 use Rattle.facts.specs.Facts.{Fact, of_value}
 use Rattle.ir_module.specs.declared.op.Symbol.{Symbol}
 use Rattle.ir_machine.specs.declared.choice.Datum.{Datum}

@@ -2,7 +2,9 @@
 use Rattle.std.proofs.Common.{arith, ◌≡◌, ◌+◌, ◌<◌, ℕ, zero, suc, Some, refl, slice_index}
 use Rattle.lattice_words.specs.Ladders.{align_rungs, byte_rungs}
 use Rattle.lattice_words.specs.declared.value.TheConstants.{NONNULL, ALIGN_2, ALIGN_RUNGS, BYTES_1, BYTE_RUNGS}
-use Rattle.facts.specs.Kinds.{Read, Write, Default, Argmem, Inaccessible, FunctionFact, NoUnwind, NoReturn, NoFree, NoAccess, BlockClass, OwnAlloca, Argument, Global, Unknown, UseFact, CapturedByReturnAlone, NotReturned, NotThrough, NonNull, AlignedTo, HasBytes, NotTo, UsedSo, function_bit, function_fact, class_bit, use_bit, value_fact}
+use Rattle.facts.specs.Kinds.{Read, Write, Default, Argmem, Inaccessible, FunctionFact, NoUnwind, NoReturn, NoFree, NoAccess, BlockClass, OwnAlloca, Argument}
+use Rattle.facts.specs.Kinds.{Global, Unknown, UseFact, CapturedByReturnAlone, NotReturned, NotThrough, NonNull, AlignedTo, HasBytes, NotTo, UsedSo}
+use Rattle.facts.specs.Kinds.{function_bit, function_fact, class_bit, use_bit, value_fact}
 
 -- the nine facts of a body
 pub function_fact_of : (kind : FunctionFact) → function_fact (function_bit kind) ≡ Some kind

@@ -1,6 +1,7 @@
 -- Where effects are what they should be, a body's rule may read them: both go through its segments.
-use Rattle.std.proofs.Common.{arith, ◌≡◌, ◌≤◌, ◌&&◌, ◌↔◌, nat_le, nat_lt, ℕ, zero, suc, Bool, true, false, MatchOption, Option, None, Some, length, refl, sym, subst, ◌∙◌}
-use Rattle.std.proofs.lemmas.Bool.{leb-true, lt-ltb}
+use Rattle.std.proofs.Common.{arith, ◌≡◌, ◌≤◌, ◌&&◌, ◌↔◌, nat_le, nat_lt, ℕ, zero, suc, Bool, true, MatchOption, Option, None, Some, length, refl, sym, subst}
+use Rattle.std.proofs.Common.{◌∙◌}
+use Rattle.std.proofs.lemmas.Bool.{leb-true, lt-ltb, and_parts, and_from}
 use Rattle.std.proofs.lemmas.Option.{slice_get_within}
 use Rattle.lattice_words.specs.declared.function.TheConstants.{NO_WRITE_OF_INACCESSIBLEMEM}
 use Rattle.ir_module.specs.declared.module.Module.{Module}
@@ -11,15 +12,6 @@ use Rattle.facts.specs.Bodies.{is_body}
 use Rattle.facts.specs.Masks.{is_built, is_bit}
 use Rattle.facts.specs.Functions.{EachKeeps, SegmentKeeps}
 use Rattle.facts.specs.Justified.{JustifiedAt, EachEffect, Rule, AreEffects}
-
-both : (a b : Bool) → (a && b) ≡ true → (a ≡ true) × (b ≡ true)
-both true true e = (refl, refl)
-both true false e = absurd (cc)
-both false b e = absurd (cc)
-
-and_true : (a b : Bool) → a ≡ true → b ≡ true → (a && b) ≡ true
-and_true true b e d = d
-and_true false b e d = e
 
 -- the first nine bits say something
 known : (bit : ℕ) → bit ≤ NO_WRITE_OF_INACCESSIBLEMEM → (kind : FunctionFact) × (function_fact bit ≡ Some kind)
@@ -47,14 +39,14 @@ shifted m f k at other within = record {
 module _ (m : Module) (held : Fact → Bool) (effects : AreEffects m held) (f bit : ℕ) (is : is_bit m (function f) bit ≡ true) where
   parts : (is_built (function f) bit ≡ true) × ((is_body m f ≡ true) × (nat_le bit NO_WRITE_OF_INACCESSIBLEMEM ≡ true))
   parts =
-      let w = both (is_built (function f) bit) (is_body m f && nat_le bit NO_WRITE_OF_INACCESSIBLEMEM) is in
-      (w.0, both (is_body m f) (nat_le bit NO_WRITE_OF_INACCESSIBLEMEM) w.1)
+      let w = and_parts (is_built (function f) bit) (is_body m f && nat_le bit NO_WRITE_OF_INACCESSIBLEMEM) is in
+      (w.0, and_parts (is_body m f) (nat_le bit NO_WRITE_OF_INACCESSIBLEMEM) w.1)
 
   -- the effect of each segment of the body has a word with this bit
   bit_there : (k : ℕ) → IsSegIn m f k → is_bit m (effect k) bit ≡ true
   bit_there k within =
-      and_true (is_built (effect k) bit) (nat_lt k (length m.segs) && nat_le bit NO_WRITE_OF_INACCESSIBLEMEM) parts.0
-      (and_true (nat_lt k (length m.segs)) (nat_le bit NO_WRITE_OF_INACCESSIBLEMEM)
+      and_from (is_built (effect k) bit) (nat_lt k (length m.segs) && nat_le bit NO_WRITE_OF_INACCESSIBLEMEM) parts.0
+      (and_from (nat_lt k (length m.segs)) (nat_le bit NO_WRITE_OF_INACCESSIBLEMEM)
       (lt-ltb k (length m.segs) (slice_get_within m.segs k within.seg within.at_seg)) parts.1.1)
 
   from_effects : EachEffect m held f bit → JustifiedAt m held (function f) bit

@@ -1,6 +1,6 @@
 -- The greatest set has every fact that it justifies: with that fact it still supports itself.
-use Rattle.std.proofs.Common.{◌≡◌, ◌==◌, ◌&&◌, ◌||◌, ◌⊎◌, ℕ, Bool, true, false, inl, inr, refl, sym, ap, subst, ◌∙◌}
-use Rattle.std.proofs.lemmas.Bool.Decides.{eqb_tells}
+use Rattle.std.proofs.Common.{◌≡◌, ◌==◌, ◌&&◌, ◌||◌, ℕ, Bool, true, false, inl, inr, refl, ap, subst, ◌∙◌}
+use Rattle.std.proofs.lemmas.Bool.{eqb-true, eq-eqb, and_parts, and_from, or_left, or_right, or_cases}
 use Rattle.ir_module.specs.declared.module.Module.{Module}
 use Rattle.facts.specs.declared.pos.Pos.{Pos}
 use Rattle.facts.specs.declared.pos.Pos.TheVariants as pos
@@ -10,18 +10,6 @@ use Rattle.facts.specs.Justified.{Justified, IsGreatest}
 use Rattle.facts.proofs.Growing.{justified_more}
 
 -- ---- which positions are the same
-
-same_number : (a b : ℕ) → (a == b) ≡ true → a ≡ b
-same_number a b e = elim (eqb_tells a b) [
-  | inl (t, same) ↦ same
-  | inr (t, other) ↦ absurd (let off : true ≡ false = sym e ∙ t in cc)
-]
-
-is_itself : (a : ℕ) → (a == a) ≡ true
-is_itself a = elim (eqb_tells a a) [
-  | inl (t, same) ↦ t
-  | inr (t, other) ↦ absurd (other refl)
-]
 
 abbrev same_pos : Pos → Pos → Bool
 same_pos (pos.Segment a) (pos.Segment b) = a.0 == b.0
@@ -33,30 +21,21 @@ same_pos (pos.Reach a i) (pos.Reach b j) = (a == b) && (i == j)
 same_pos (pos.Effect a) (pos.Effect b) = a.0 == b.0
 same_pos _ _ = false
 
-both : (a b : Bool) → (a && b) ≡ true → (a ≡ true) × (b ≡ true)
-both true true e = (refl, refl)
-both true false e = absurd (cc)
-both false b e = absurd (cc)
-
-and_true : (a b : Bool) → a ≡ true → b ≡ true → (a && b) ≡ true
-and_true true b e d = d
-and_true false b e d = e
-
 clash : {A : Type 0} → false ≡ true → A
 clash e = absurd (cc)
 
 same_is : (p q : Pos) → same_pos p q ≡ true → p ≡ q
-same_is (pos.Segment a) (pos.Segment b) e = ap (λ n. pos.Segment (record { 0 = n })) (same_number a.0 b.0 e)
-same_is (pos.Function a) (pos.Function b) e = ap (λ n. pos.Function (record { 0 = n })) (same_number a.0 b.0 e)
-same_is (pos.Value a) (pos.Value b) e = ap (λ n. pos.Value (record { 0 = n })) (same_number a.0 b.0 e)
+same_is (pos.Segment a) (pos.Segment b) e = ap (λ n. pos.Segment (record { 0 = n })) (eqb-true a.0 b.0 e)
+same_is (pos.Function a) (pos.Function b) e = ap (λ n. pos.Function (record { 0 = n })) (eqb-true a.0 b.0 e)
+same_is (pos.Value a) (pos.Value b) e = ap (λ n. pos.Value (record { 0 = n })) (eqb-true a.0 b.0 e)
 same_is (pos.Entry a i) (pos.Entry b j) e =
-    let w = both (a.0 == b.0) (i == j) e in
-    ap (λ n. pos.Entry (record { 0 = n }) i) (same_number a.0 b.0 w.0) ∙ ap (λ n. pos.Entry b n) (same_number i j w.1)
-same_is (pos.Return a) (pos.Return b) e = ap (λ n. pos.Return (record { 0 = n })) (same_number a.0 b.0 e)
+    let w = and_parts (a.0 == b.0) (i == j) e in
+    ap (λ n. pos.Entry (record { 0 = n }) i) (eqb-true a.0 b.0 w.0) ∙ ap (λ n. pos.Entry b n) (eqb-true i j w.1)
+same_is (pos.Return a) (pos.Return b) e = ap (λ n. pos.Return (record { 0 = n })) (eqb-true a.0 b.0 e)
 same_is (pos.Reach a i) (pos.Reach b j) e =
-    let w = both (a == b) (i == j) e in
-    ap (λ n. pos.Reach n i) (same_number a b w.0) ∙ ap (λ n. pos.Reach b n) (same_number i j w.1)
-same_is (pos.Effect a) (pos.Effect b) e = ap (λ n. pos.Effect (record { 0 = n })) (same_number a.0 b.0 e)
+    let w = and_parts (a == b) (i == j) e in
+    ap (λ n. pos.Reach n i) (eqb-true a b w.0) ∙ ap (λ n. pos.Reach b n) (eqb-true i j w.1)
+same_is (pos.Effect a) (pos.Effect b) e = ap (λ n. pos.Effect (record { 0 = n })) (eqb-true a.0 b.0 e)
 same_is (pos.Segment a) _ e = clash e
 same_is (pos.Function a) _ e = clash e
 same_is (pos.Value a) _ e = clash e
@@ -66,13 +45,13 @@ same_is (pos.Reach a i) _ e = clash e
 same_is (pos.Effect a) _ e = clash e
 
 same_itself : (p : Pos) → same_pos p p ≡ true
-same_itself (pos.Segment a) = is_itself a.0
-same_itself (pos.Function a) = is_itself a.0
-same_itself (pos.Value a) = is_itself a.0
-same_itself (pos.Entry a i) = and_true (a.0 == a.0) (i == i) (is_itself a.0) (is_itself i)
-same_itself (pos.Return a) = is_itself a.0
-same_itself (pos.Reach a i) = and_true (a == a) (i == i) (is_itself a) (is_itself i)
-same_itself (pos.Effect a) = is_itself a.0
+same_itself (pos.Segment a) = eq-eqb a.0 a.0 refl
+same_itself (pos.Function a) = eq-eqb a.0 a.0 refl
+same_itself (pos.Value a) = eq-eqb a.0 a.0 refl
+same_itself (pos.Entry a i) = and_from (a.0 == a.0) (i == i) (eq-eqb a.0 a.0 refl) (eq-eqb i i refl)
+same_itself (pos.Return a) = eq-eqb a.0 a.0 refl
+same_itself (pos.Reach a i) = and_from (a == a) (i == i) (eq-eqb a a refl) (eq-eqb i i refl)
+same_itself (pos.Effect a) = eq-eqb a.0 a.0 refl
 
 -- ---- a set with one fact more
 
@@ -82,33 +61,22 @@ is_it x y = same_pos x.pos y.pos && (x.bit == y.bit)
 abbrev with_fact : Fact → (Fact → Bool) → Fact → Bool
 with_fact x held y = is_it x y || held y
 
-parted : (a b : Bool) → (a || b) ≡ true → (a ≡ true) ⊎ (b ≡ true)
-parted true b e = inl refl
-parted false b e = inr e
-
-left : (a b : Bool) → a ≡ true → (a || b) ≡ true
-left true b e = refl
-left false b e = clash e
-
-right : (a b : Bool) → b ≡ true → (a || b) ≡ true
-right true b e = refl
-right false b e = e
-
 is_same_fact : (x y : Fact) → is_it x y ≡ true → x ≡ y
 is_same_fact x y e =
-    let w = both (same_pos x.pos y.pos) (x.bit == y.bit) e in
-    ap (λ p. fact p x.bit) (same_is x.pos y.pos w.0) ∙ ap (λ bit. fact y.pos bit) (same_number x.bit y.bit w.1)
+    let w = and_parts (same_pos x.pos y.pos) (x.bit == y.bit) e in
+    ap (λ p. fact p x.bit) (same_is x.pos y.pos w.0) ∙ ap (λ bit. fact y.pos bit) (eqb-true x.bit y.bit w.1)
 
 -- the greatest set has each fact that it justifies
 pub has_justified : (m : Module) (held : Fact → Bool) → IsGreatest m held → (x : Fact) → IsFact m x → Justified m held x → held x ≡ true
 has_justified m held g x is rule =
-    g.contains (with_fact x held) stays x (left (is_it x x) (held x) (and_true (same_pos x.pos x.pos) (x.bit == x.bit) (same_itself x.pos) (is_itself x.bit)))
+    g.contains (with_fact x held) stays x
+    (or_left (is_it x x) (held x) (and_from (same_pos x.pos x.pos) (x.bit == x.bit) (same_itself x.pos) (eq-eqb x.bit x.bit refl)))
   where
     grown : (y : Fact) → Justified m held y → Justified m (with_fact x held) y
-    grown y = justified_more m held (with_fact x held) (λ z no_effect e. right (is_it x z) (held z) e) y
+    grown y = justified_more m held (with_fact x held) (λ z no_effect e. or_right (is_it x z) (held z) e) y
 
     stays : (y : Fact) → with_fact x held y ≡ true → IsFact m y × Justified m (with_fact x held) y
-    stays y e = elim (parted (is_it x y) (held y) e) [
+    stays y e = elim (or_cases (is_it x y) (held y) e) [
       | inl here ↦ let same = is_same_fact x y here in (subst (IsFact m) same is, grown y (subst (Justified m held) same rule))
       | inr old ↦ let was = g.is_one y old in (was.0, grown y was.1)
     ]

@@ -18,7 +18,9 @@ use Rattle.ir_module.specs.Places.{spot, instr_at}
 use Rattle.ir_module.specs.Calls.{inner_callee}
 use Rattle.facts.specs.declared.pos.Pos.{Pos}
 use Rattle.facts.specs.declared.pos.Pos.TheVariants as pos
-use Rattle.facts.specs.Kinds.{Access, Location, Default, Argmem, Inaccessible, FunctionFact, NoUnwind, NoReturn, NoFree, NoAccess, BlockClass, OwnAlloca, Argument, Global, Unknown, UseFact, CapturedByReturnAlone, NotReturned, NotThrough, ValueFact, SameAs, NonNull, AlignedTo, HasBytes, NotTo, UsedSo, class_bit, value_fact, function_fact}
+use Rattle.facts.specs.Kinds.{Access, Location, Default, Argmem, Inaccessible, FunctionFact, NoUnwind, NoReturn, NoFree, NoAccess, BlockClass, OwnAlloca}
+use Rattle.facts.specs.Kinds.{Argument, Global, Unknown, UseFact, CapturedByReturnAlone, NotReturned, NotThrough, ValueFact, SameAs, NonNull, AlignedTo}
+use Rattle.facts.specs.Kinds.{HasBytes, NotTo, UsedSo, class_bit, value_fact, function_fact}
 use Rattle.facts.specs.Facts.{Fact, dead_at, of_function, of_value, of_return, at_entry, nofree_of, not_to, used_so, unreached_by}
 use Rattle.facts.specs.Bodies.{rank, body_count, param_of}
 use Rattle.facts.specs.Promises.{has_by, promises_fact, call_has}

@@ -1,6 +1,7 @@
 -- Booleans, options and sums along an implication.
 use Rattle.std.proofs.Common.{◌≡◌, ◌&&◌, ◌||◌, ◌⊎◌, Bool, true, false, inl, inr, ⊎_elim, MatchOption, Option, None, Some, refl}
 use Rattle.std.specs.Option.{option_map_or}
+use Rattle.std.proofs.lemmas.Bool.{and_from, or_left, or_right}
 
 -- what is not true afterwards was not true before
 pub back : (a b : Bool) → (a ≡ true → b ≡ true) → b ≡ false → a ≡ false
@@ -9,26 +10,14 @@ back true b up e = let t = up refl in absurd (cc)
 
 -- both parts of a conjunction
 pub and_more : (a b c d : Bool) → (a ≡ true → c ≡ true) → (b ≡ true → d ≡ true) → (a && b) ≡ true → (c && d) ≡ true
-and_more true true c d f g e = let x = f refl in let y = g refl in both c d x y
-  where
-    both : (c d : Bool) → c ≡ true → d ≡ true → (c && d) ≡ true
-    both true d x y = y
-    both false d x y = x
+and_more true true c d f g e = let x = f refl in let y = g refl in and_from c d x y
 and_more true false c d f g e = absurd (cc)
 and_more false b c d f g e = absurd (cc)
 
 -- the part of a disjunction that holds
 pub or_more : (a b c d : Bool) → (a ≡ true → c ≡ true) → (b ≡ true → d ≡ true) → (a || b) ≡ true → (c || d) ≡ true
-or_more true b c d f g e = left c d (f refl)
-  where
-    left : (c d : Bool) → c ≡ true → (c || d) ≡ true
-    left true d x = refl
-    left false d x = absurd (cc)
-or_more false true c d f g e = right c d (g refl)
-  where
-    right : (c d : Bool) → d ≡ true → (c || d) ≡ true
-    right true d x = refl
-    right false d x = x
+or_more true b c d f g e = or_left c d (f refl)
+or_more false true c d f g e = or_right c d (g refl)
 or_more false false c d f g e = absurd (cc)
 
 -- in either case

@@ -1,6 +1,7 @@
 -- How far a getelementptr goes (LangRef, "'getelementptr' Instruction"): the index over the element, then one index
 -- into each array or struct.
-use Rattle.std.specs.Prelude.{◌%◌, ◌^◌, ◌&&◌, ◌||◌, ◌==◌, not, nat_lt, ℕ, ℤ, pos, ◌+ℤ◌, ◌*ℤ◌, int_le, Bool, true, false, List, [], ◌∷◌, slice_get, Option, Some, Result, Ok, Err}
+use Rattle.std.specs.Prelude.{◌%◌, ◌^◌, ◌&&◌, ◌||◌, ◌==◌, not, nat_lt, ℕ, ℤ, pos, ◌+ℤ◌, ◌*ℤ◌, int_le, Bool, true, false, List, [], ◌∷◌, slice_get, Option, Some}
+use Rattle.std.specs.Prelude.{Result, Ok, Err}
 use Rattle.std.specs.Option.{option_map_or}
 use Rattle.std.specs.List.{list_all}
 use Rattle.ir_types.specs.declared.ir_type.IrType.{IrType}

@@ -2,7 +2,8 @@
 use Rattle.std.specs.Prelude.{◌≡◌, ◌+◌, ◌<◌, ℕ, slice_index, Some}
 use Rattle.lattice_words.specs.Ladders.{align_rungs, byte_rungs}
 use Rattle.lattice_words.specs.declared.value.TheConstants.{NONNULL, ALIGN_2, ALIGN_RUNGS, BYTES_1, BYTE_RUNGS}
-use Rattle.facts.specs.Kinds.{FunctionFact, BlockClass, UseFact, NonNull, AlignedTo, HasBytes, NotTo, UsedSo, function_bit, function_fact, class_bit, use_bit, value_fact}
+use Rattle.facts.specs.Kinds.{FunctionFact, BlockClass, UseFact, NonNull, AlignedTo, HasBytes, NotTo, UsedSo, function_bit, function_fact, class_bit, use_bit}
+use Rattle.facts.specs.Kinds.{value_fact}
 
 -- each bit says the fact whose bit it is
 pub record SayTheirFacts : Type 0 where

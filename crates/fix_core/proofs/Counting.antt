@@ -1,5 +1,7 @@
 -- Every event keeps the two counts.
-use Rattle.std.proofs.Common.{◌≡◌, ℕ, zero, suc, ◌+◌, ◌-◌, ◌*◌, ◌/◌, ◌%◌, ◌^◌, ◌<◌, ◌≤◌, Bool, true, false, cond, eqb, eq-eqb, List, [], ◌∷◌, length, replicate, slice_index, slice_index_or, slice_get, set, count_ones, Option, Some, All, Contains, refl, ap, sym, subst, arith, inl, inr, zip, mul-le-mul, le_refl}
+use Rattle.std.proofs.Common.{◌≡◌, ℕ, zero, suc, ◌+◌, ◌-◌, ◌*◌, ◌/◌, ◌%◌, ◌^◌, ◌<◌, ◌≤◌, Bool, true, false, cond, eqb, eq-eqb, List, [], ◌∷◌, length, replicate}
+use Rattle.std.proofs.Common.{slice_index, slice_index_or, slice_get, set, count_ones, Option, Some, All, Contains, refl, ap, sym, subst, arith, inl, inr, zip}
+use Rattle.std.proofs.Common.{mul-le-mul, le_refl}
 use Rattle.std.specs.Int.{bit_at}
 use Rattle.std.specs.List.{sum_by}
 use Rattle.std.proofs.lemmas.Bool.{cases_lt}
@@ -20,7 +22,9 @@ use Rattle.fix_core.specs.declared.state.CoreState.{CoreState}
 use Rattle.fix_core.specs.declared.state.CoreSeat.{CoreSeat}
 use Rattle.fix_core.specs.declared.state.CoreMode.{CoreMode}
 use Rattle.fix_core.specs.declared.state.CoreMode.TheVariants.{Idle, Open, Owes}
-use Rattle.fix_core.specs.Machine.{facts_of, facts_at, dirty_at, is_clean, cleaned, dirtied, cut_to, lost_by, owed_by, without, word_at, seat_at, new_seat, written, seated, values_of, has_all, after_take, after_look, after_cut, after_tell, after_clear, take_step, look_step, cut_step, tell_step, clear_step, step, run_of, IsEvent, opening_words, opening}
+use Rattle.fix_core.specs.Machine.{facts_of, facts_at, dirty_at, is_clean, cleaned, dirtied, cut_to, lost_by, owed_by, without, word_at, seat_at, new_seat}
+use Rattle.fix_core.specs.Machine.{written, seated, values_of, has_all, after_take, after_look, after_cut, after_tell, after_clear, take_step, look_step}
+use Rattle.fix_core.specs.Machine.{cut_step, tell_step, clear_step, step, run_of, IsEvent, opening_words, opening}
 use Rattle.fix_core.specs.Invariant.{EachSeat, AreLooked, IsMode, IsCore}
 use Rattle.fix_core.specs.Counts.{dirty_count, owed_count, paid_for, paid, AreCounted}
 use Rattle.fix_core.proofs.Words.{cleaned_facts, dirtied_facts}
@@ -45,18 +49,23 @@ adds : (took took' dirty dirty' told told' owed owed' paid' paid'' count : ℕ) 
     took + dirty ≤ count + told → told + owed ≤ paid' → (took' + dirty' ≤ count + told') × (told' + owed' ≤ paid'')
 adds took took' dirty dirty' told told' owed owed' paid' paid'' count a a' d d' t t' o o' x x' e1 e2 e3 e4 e5 h k takes tells = (omega arith, omega arith)
 
-module _ (s : System) (g : List Row) (of : IsGraphOf s g) (workers : ℕ) (c : CoreState) (inv : IsCore s g workers c) (counted : AreCounted s g c) (w : ℕ) (seat : CoreSeat) (at : slice_get c.seats w ≡ Some seat) where
+module _ (s : System) (g : List Row) (of : IsGraphOf s g) (workers : ℕ) (c : CoreState) (inv : IsCore s g workers c) (counted : AreCounted s g c) (w : ℕ)
+    (seat : CoreSeat) (at : slice_get c.seats w ≡ Some seat) where
   -- a word and a seat were written
   write_counted : (p n : ℕ) (v : CoreSeat) → p < length s.masks →
       v.took + dirty_count n + seat.told ≤ seat.took + dirty_count (slice_index c.words p) + v.told →
-      v.told + owed_of v + paid_for (slice_index s.masks p) (slice_index c.words p) (row_at g p) ≤ seat.told + owed_of seat + paid_for (slice_index s.masks p) n (row_at g p) →
+      v.told + owed_of v + paid_for (slice_index s.masks p) (slice_index c.words p) (row_at g p) ≤ seat.told + owed_of seat + paid_for (slice_index s.masks p) n
+      (row_at g p) →
       AreCounted s g (written c p n w v)
   write_counted p n v l takes tells =
       let inside : p < length c.words = omega (arith, inv.words) in
       let both = adds (sum_by took_of c.seats) (sum_by took_of (set c.seats w v)) (sum_by dirty_count c.words) (sum_by dirty_count (set c.words p n))
-      (sum_by told_of c.seats) (sum_by told_of (set c.seats w v)) (sum_by owed_of c.seats) (sum_by owed_of (set c.seats w v)) (paid s.masks c.words g) (paid s.masks (set c.words p n) g) (length s.masks)
-      seat.took v.took (dirty_count (slice_index c.words p)) (dirty_count n) seat.told v.told (owed_of seat) (owed_of v) (paid_for (slice_index s.masks p) (slice_index c.words p) (row_at g p)) (paid_for (slice_index s.masks p) n (row_at g p))
-      (sum_seats took_of c.seats w seat v at) (sum_by-set dirty_count c.words p n 0 inside) (sum_seats told_of c.seats w seat v at) (sum_seats owed_of c.seats w seat v at)
+      (sum_by told_of c.seats) (sum_by told_of (set c.seats w v)) (sum_by owed_of c.seats) (sum_by owed_of (set c.seats w v)) (paid s.masks c.words g)
+      (paid s.masks (set c.words p n) g) (length s.masks)
+      seat.took v.took (dirty_count (slice_index c.words p)) (dirty_count n) seat.told v.told (owed_of seat) (owed_of v)
+      (paid_for (slice_index s.masks p) (slice_index c.words p) (row_at g p)) (paid_for (slice_index s.masks p) n (row_at g p))
+      (sum_seats took_of c.seats w seat v at) (sum_by-set dirty_count c.words p n 0 inside) (sum_seats told_of c.seats w seat v at)
+      (sum_seats owed_of c.seats w seat v at)
       (paid_set s.masks c.words g p n l inside (omega (arith, of.long))) takes tells counted.takes counted.tells in
       record { takes = both.0; tells = both.1 }
 
@@ -67,17 +76,20 @@ module _ (s : System) (g : List Row) (of : IsGraphOf s g) (workers : ℕ) (c : C
     tells = omega (arith, sum_seats told_of c.seats w seat v at, sum_seats owed_of c.seats w seat v at, told, owed, counted.tells);
   }
 
-  same_paid : (p n : ℕ) → facts_of n ≡ facts_of (slice_index c.words p) → paid_for (slice_index s.masks p) (slice_index c.words p) (row_at g p) ≡ paid_for (slice_index s.masks p) n (row_at g p)
+  same_paid : (p n : ℕ) → facts_of n ≡ facts_of (slice_index c.words p) →
+      paid_for (slice_index s.masks p) (slice_index c.words p) (row_at g p) ≡ paid_for (slice_index s.masks p) n (row_at g p)
   same_paid p n e = ap (λ m. (count_ones (slice_index s.masks p) - count_ones m) * length (row_at g p).dependents) (sym e)
 
   take_owes : (p : PosId) (b : Bool) → is_clean (slice_index c.words p.0) ≡ b → owed_of (after_take s p (slice_index c.words p.0) seat) ≡ 0
   take_owes p true e = rw e refl
   take_owes p false e = rw e refl
 
-  take_took : (p : PosId) (b : Bool) → is_clean (slice_index c.words p.0) ≡ b → (after_take s p (slice_index c.words p.0) seat).took ≤ seat.took + dirty_count (slice_index c.words p.0)
+  take_took : (p : PosId) (b : Bool) → is_clean (slice_index c.words p.0) ≡ b →
+      (after_take s p (slice_index c.words p.0) seat).took ≤ seat.took + dirty_count (slice_index c.words p.0)
   take_took p b e = rw e (take_pays (slice_index c.words p.0) seat.took b e)
 
-  pub take_counted : (p : PosId) → p.0 < length s.masks → seat.mode ≡ Idle → AreCounted s g (written c p.0 (cleaned (slice_index c.words p.0)) w (after_take s p (slice_index c.words p.0) seat))
+  pub take_counted : (p : PosId) → p.0 < length s.masks → seat.mode ≡ Idle →
+      AreCounted s g (written c p.0 (cleaned (slice_index c.words p.0)) w (after_take s p (slice_index c.words p.0) seat))
   take_counted p l idle =
       let word : ℕ = slice_index c.words p.0 in
       let v : CoreSeat = after_take s p word seat in
@@ -85,8 +97,10 @@ module _ (s : System) (g : List Row) (of : IsGraphOf s g) (workers : ℕ) (c : C
       (omega (arith, take_took p (is_clean word) refl, cleaned_count word))
       (omega (arith, take_owes p (is_clean word) refl, same_paid p.0 (cleaned word) (cleaned_facts word)))
 
-  pub look_counted : (p : PosId) (looked : List (Option ℕ)) (i : ℕ) → seat.mode ≡ Open p looked → AreCounted s g (seated c w (after_look p looked i (slice_index c.words (input_at (inputs_of s p.0) i).0) seat))
-  look_counted p looked i mode = seat_counted (after_look p looked i (slice_index c.words (input_at (inputs_of s p.0) i).0) seat) refl refl (sym (ap owed_count mode))
+  pub look_counted : (p : PosId) (looked : List (Option ℕ)) (i : ℕ) → seat.mode ≡ Open p looked →
+      AreCounted s g (seated c w (after_look p looked i (slice_index c.words (input_at (inputs_of s p.0) i).0) seat))
+  look_counted p looked i mode = seat_counted (after_look p looked i (slice_index c.words (input_at (inputs_of s p.0) i).0) seat) refl refl
+      (sym (ap owed_count mode))
 
   pub cut_counted : (p : PosId) (looked : List (Option ℕ)) (new : ℕ) → seat.mode ≡ Open p looked →
       AreCounted s g (written c p.0 (cut_to new (slice_index c.words p.0)) w (after_cut g p new (slice_index c.words p.0) seat))
@@ -96,11 +110,20 @@ module _ (s : System) (g : List Row) (of : IsGraphOf s g) (workers : ℕ) (c : C
       let fits : word < 2 ^ 64 = All-get_or (λ (m : ℕ). m < 2 ^ 64) c.words p.0 0 (omega (arith, inv.words, old.place)) inv.fits in
       write_counted p.0 (cut_to new word) (after_cut g p new word seat) old.place
       (omega (arith, cut_count new word fits))
-      (omega (arith, owing_count (owed_by g p.0 (lost_by new word)), ap owed_count mode, cut_pays (slice_index s.masks p.0) new word (row_at g p.0) (mask_holds p.0))) where
+      (omega (
+        arith,
+        owing_count (owed_by g p.0 (lost_by new word)),
+        ap owed_count mode,
+        cut_pays (slice_index s.masks p.0) new word (row_at g p.0) (mask_holds p.0),
+      )) where
         mask_holds : (q : ℕ) (i : ℕ) → bit_at (facts_at c.words q) i ≤ bit_at (slice_index s.masks q) i
         mask_holds q i = elim (cases_lt i 64) [
           | inl low ↦ inv.within q i low
-          | inr past ↦ omega (arith, bit_at_and (slice_index c.words q) (2 ^ FACT_BITS - 1) i, bit_at_above (2 ^ FACT_BITS - 1) FACT_BITS i (omega arith) (omega arith))
+          | inr past ↦ omega (
+            arith,
+            bit_at_and (slice_index c.words q) (2 ^ FACT_BITS - 1) i,
+            bit_at_above (2 ^ FACT_BITS - 1) FACT_BITS i (omega arith) (omega arith),
+          )
         ]
 
   pub tell_counted : (d : PosId) (list : List PosId) → d.0 < length s.masks → seat.mode ≡ Owes list → Contains list d →
@@ -109,9 +132,17 @@ module _ (s : System) (g : List Row) (of : IsGraphOf s g) (workers : ℕ) (c : C
       let word : ℕ = slice_index c.words d.0 in
       write_counted d.0 (dirtied word w) (after_tell w d list word seat) l
       (omega (arith, told_paid refl))
-      (omega (arith, told_few (eqb (dirty_at word w) 0), owing_count (without d list), ap owed_count mode, without_fewer d list has, same_paid d.0 (dirtied word w) (dirtied_facts word w))) where
+      (omega (
+        arith,
+        told_few (eqb (dirty_at word w) 0),
+        owing_count (without d list),
+        ap owed_count mode,
+        without_fewer d list has,
+        same_paid d.0 (dirtied word w) (dirtied_facts word w),
+      )) where
         told_paid : eqb (dirty_at (slice_index c.words d.0) w) 0 ≡ eqb (dirty_at (slice_index c.words d.0) w) 0 →
-            dirty_count (dirtied (slice_index c.words d.0) w) + seat.told ≡ dirty_count (slice_index c.words d.0) + (after_tell w d list (slice_index c.words d.0) seat).told
+            dirty_count (dirtied (slice_index c.words d.0) w) + seat.told ≡ dirty_count (slice_index c.words d.0) +
+            (after_tell w d list (slice_index c.words d.0) seat).told
         told_paid e = tell_pays (slice_index c.words d.0) w seat.told (eqb (dirty_at (slice_index c.words d.0) w) 0) e
 
         told_few : (b : Bool) → cond b (seat.told + 1) seat.told ≤ seat.told + 1
@@ -150,7 +181,8 @@ module _ (s : System) (g : List Row) (is : IsSystem s) (of : IsGraphOf s g) (wor
     tell w l d k Idle e = counted
     tell w l d k (Open p looked) e = counted
     tell w l d k (Owes list) e = by_case (has_name list d) refl where
-      by_case : (b : Bool) → has_name list d ≡ b → AreCounted s g (cond b (written c d.0 (dirtied (word_at c d.0) w) w (after_tell w d list (word_at c d.0) (seat_at c w))) c)
+      by_case : (b : Bool) → has_name list d ≡ b →
+          AreCounted s g (cond b (written c d.0 (dirtied (word_at c d.0) w) w (after_tell w d list (word_at c d.0) (seat_at c w))) c)
       by_case true has = tell_counted s g of workers c inv counted w (seat_at c w) (here w l) d list k e (named_contains list d has)
       by_case false has = counted
 
@@ -169,11 +201,13 @@ module _ (s : System) (g : List Row) (is : IsSystem s) (of : IsGraphOf s g) (wor
     event_counted (Tell w d) may = tell w may.0 d may.1 (seat_at c w).mode refl
     event_counted (Clear w p) may = clear w may.0 p (seat_at c w).mode
 
-  pub events_counted : (events : List CoreEvent) → All (IsEvent (length s.masks) workers) events → (c : CoreState) → IsCore s g workers c → AreCounted s g c → AreCounted s g (run_of s g c events)
+  pub events_counted : (events : List CoreEvent) → All (IsEvent (length s.masks) workers) events → (c : CoreState) → IsCore s g workers c → AreCounted s g c →
+      AreCounted s g (run_of s g c events)
   events_counted [] may c inv counted = counted
   events_counted (e ∷ es) may c inv counted =
       let now = All-head (IsEvent (length s.masks) workers) e es may in
-      events_counted es (All-tail (IsEvent (length s.masks) workers) e es may) (step s g c e) (event_kept s g is of workers few c inv e now) (event_counted c inv counted e now)
+      events_counted es (All-tail (IsEvent (length s.masks) workers) e es may) (step s g c e) (event_kept s g is of workers few c inv e now)
+      (event_counted c inv counted e now)
 
 -- ---- the opening
 none_of : (f : CoreSeat → ℕ) (n : ℕ) → f new_seat ≡ 0 → sum_by f (replicate n new_seat) ≡ 0
@@ -208,7 +242,8 @@ paid_within [] words g = omega arith
 paid_within (mask ∷ masks) [] g = omega arith
 paid_within (mask ∷ masks) (word ∷ words) [] = omega arith
 paid_within (mask ∷ masks) (word ∷ words) (row ∷ g) =
-    let first : paid_for mask word row ≤ retaken mask row = (let few : count_ones mask - count_ones (facts_of word) ≤ count_ones mask = omega arith in mul-le-mul few (le_refl (length row.dependents))) in
+    let first : paid_for mask word row ≤ retaken mask row = (let few : count_ones mask - count_ones (facts_of word) ≤ count_ones mask = omega arith in
+    mul-le-mul few (le_refl (length row.dependents))) in
     omega (arith, first, sum_by-cons (λ (p : ℕ × Row). retaken p.0 p.1) (mask, row) (zip masks g), paid_within masks words g)
 
 module _ (s : System) (g : List Row) (c : CoreState) (counted : AreCounted s g c) where

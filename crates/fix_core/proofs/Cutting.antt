@@ -1,5 +1,6 @@
 -- A cut keeps the core invariant.
-use Rattle.std.proofs.Common.{◌≡◌, ◌≢◌, ◌⊎◌, ℕ, ◌-◌, ◌^◌, ◌<◌, ◌≤◌, Bool, true, false, List, length, length-set, map, slice_index, slice_get, set, bit_and, bit_or, Option, Some, Contains, refl, ap, sym, ◌∙◌, subst, arith, inl, inr}
+use Rattle.std.proofs.Common.{◌≡◌, ◌≢◌, ◌⊎◌, ℕ, ◌-◌, ◌^◌, ◌<◌, ◌≤◌, Bool, true, false, List, length, length-set, map, slice_index, slice_get, set, bit_and}
+use Rattle.std.proofs.Common.{bit_or, Option, Some, Contains, refl, ap, sym, ◌∙◌, subst, arith, inl, inr}
 use Rattle.std.specs.Int.{bit_at}
 use Rattle.std.proofs.lemmas.Bool.{cases_eq}
 use Rattle.std.proofs.lemmas.Nat.{and_le_l}
@@ -38,7 +39,8 @@ within_by_mask mask a x y masked less same b l = elim (cases_eq (bit_at mask b) 
   | inr off ↦ omega (arith, masked b l, bit_at-lt mask b, off)
 ]
 
-module _ (s : System) (g : List Row) (workers : ℕ) (few : workers ≤ 16) (is : IsSystem s) (of : IsGraphOf s g) (c : CoreState) (inv : IsCore s g workers c) (w : ℕ) (seat : CoreSeat) (at : slice_get c.seats w ≡ Some seat)
+module _ (s : System) (g : List Row) (workers : ℕ) (few : workers ≤ 16) (is : IsSystem s) (of : IsGraphOf s g) (c : CoreState) (inv : IsCore s g workers c)
+    (w : ℕ) (seat : CoreSeat) (at : slice_get c.seats w ≡ Some seat)
     (p : PosId) (looked : List (Option ℕ)) (mode : seat.mode ≡ Open p looked) (all : has_all looked ≡ true) where
   abbrev word : ℕ
   word = slice_index c.words p.0
@@ -77,7 +79,11 @@ module _ (s : System) (g : List Row) (workers : ℕ) (few : workers ≤ 16) (is 
   -- the facts of each position after the cut are among those before, and at the position itself among what the cut leaves
   facts_less : (q : ℕ) → IsWithin (facts_at words q) (facts_at c.words q)
   facts_less q = elim (cases_eq q p.0) [
-    | inl here ↦ subst (λ n. IsWithin (facts_at words n) (facts_at c.words n)) (sym here) (λ b l. omega (arith, ap (λ n. bit_at n b) facts_here, cut_facts new word b))
+    | inl here ↦ subst (λ n. IsWithin (facts_at words n) (facts_at c.words n)) (sym here) (λ b l. omega (
+      arith,
+      ap (λ n. bit_at n b) facts_here,
+      cut_facts new word b,
+    ))
     | inr other ↦ λ b l. omega (arith, ap (λ n. bit_at n b) (facts_there q other))
   ]
 
@@ -90,7 +96,13 @@ module _ (s : System) (g : List Row) (workers : ℕ) (few : workers ≤ 16) (is 
   facts_above : AreAbove s (facts_at words)
   facts_above others self q = elim (cases_eq q p.0) [
     | inl here ↦ subst (λ n. IsWithin (slice_index others n) (facts_at words n)) (sym here)
-        (λ b l. omega (arith, ap (λ n. bit_at n b) facts_here, cut_facts new word b, inv.above others self p.0 b l, left_above s g workers is c inv w seat at p looked mode all others self b l))
+        (λ b l. omega (
+          arith,
+          ap (λ n. bit_at n b) facts_here,
+          cut_facts new word b,
+          inv.above others self p.0 b l,
+          left_above s g workers is c inv w seat at p looked mode all others self b l,
+        ))
     | inr other ↦ λ b l. omega (arith, ap (λ n. bit_at n b) (facts_there q other), inv.above others self q b l)
   ]
 
@@ -98,12 +110,14 @@ module _ (s : System) (g : List Row) (workers : ℕ) (few : workers ≤ 16) (is 
   -- a position whose reads all stay as they were
   abbrev Untouched : ℕ → Type 0
   Untouched q =
-      ((i : ℕ) → i < length (inputs_of s q) → AgreeOn (reads_at s q i) (facts_at c.words (input_at (inputs_of s q) i).0) (facts_at words (input_at (inputs_of s q) i).0))
+      ((i : ℕ) → i < length (inputs_of s q) →
+      AgreeOn (reads_at s q i) (facts_at c.words (input_at (inputs_of s q) i).0) (facts_at words (input_at (inputs_of s q) i).0))
       × AgreeOn (slice_index s.masks q) (value s q (facts_at c.words)) (value s q (facts_at words))
 
   unnamed : (q : ℕ) → has_name (inputs_of s q) p ≡ false → Untouched q
   unnamed q e = (
-    (λ i l b k on. ap (λ n. bit_at n b) (sym (facts_there (input_at (inputs_of s q) i).0 (λ here. let named = input_named (inputs_of s q) i p l here in let bad : false ≡ true = sym e ∙ named in cc)))),
+    (λ i l b k on. ap (λ n. bit_at n b) (sym (facts_there (input_at (inputs_of s q) i).0 (λ here. let named = input_named (inputs_of s q) i p l here in
+        let bad : false ≡ true = sym e ∙ named in cc)))),
     (λ b k on. ap (λ n. bit_at n b) (meet-by_names (facts_at c.words) (facts_at words) (terms_at s q) (slice_index s.masks q)
         (λ r named. sym (facts_there r.0 (λ here.
         let make : ℕ → PosId = λ n. record { 0 = n } in
@@ -138,7 +152,8 @@ module _ (s : System) (g : List Row) (workers : ℕ) (few : workers ≤ 16) (is 
   owed_mode = owing_mode s g (owed_by g p.0 lost) (record {
     of = p.0;
     place = old.place;
-    once = λ i j d l k. let rising = readers_pairs (λ x y. x.0 < y.0) lost (row_at g p.0).dependents (row_at g p.0).reads row.rising i j d l k in λ e. absurd (omega (arith, e, rising));
+    once = λ i j d l k. let rising = readers_pairs (λ x y. x.0 < y.0) lost (row_at g p.0).dependents (row_at g p.0).reads row.rising i j d l k in
+        λ e. absurd (omega (arith, e, rising));
     dependents = λ d has. readers_from lost (row_at g p.0).dependents (row_at g p.0).reads d has;
   })
 
@@ -147,7 +162,8 @@ module _ (s : System) (g : List Row) (workers : ℕ) (few : workers ≤ 16) (is 
 
   -- ---- covers
   supported_kept : (q : ℕ) → Untouched q → IsSupported s (facts_at c.words) q → IsSupported s (facts_at words) q
-  supported_kept q un supported = within_by_mask (slice_index s.masks q) (facts_at words q) (value s q (facts_at c.words)) (value s q (facts_at words)) (facts_masked q)
+  supported_kept q un supported =
+      within_by_mask (slice_index s.masks q) (facts_at words q) (value s q (facts_at c.words)) (value s q (facts_at words)) (facts_masked q)
       (λ b l. omega (arith, facts_less q b l, supported b l)) un.1
 
   -- what the seat looked at gives the value over the present facts, if it is up to date
@@ -162,7 +178,16 @@ module _ (s : System) (g : List Row) (workers : ℕ) (few : workers ≤ 16) (is 
       (sym (get_or-map (λ (q : PosId). slice_index facts q.0) (inputs_of s p.0) i (record { 0 = 0 }) 0 k ∙ facts_list c.words (input_at (inputs_of s p.0) i).0))
       (fresh i (slice_index (values_of looked) i) (value_looked looked i all (omega (arith, old.long))))) in
       let whole : value s p.0 (facts_at c.words) ≡ value_at s p.0 there = ap (value s p.0) (same_facts c.words) ∙ value_in-value_at s p.0 facts in
-      omega (arith, ap (λ n. bit_at n b) same, ap (λ n. bit_at n b) whole, bit_at_and (slice_index s.masks p.0) new b, bit_at_and (slice_index s.masks p.0) (value_at s p.0 there) b, on, bit_at-lt new b, bit_at-lt (value_at s p.0 there) b)
+      omega (
+        arith,
+        ap (λ n. bit_at n b) same,
+        ap (λ n. bit_at n b) whole,
+        bit_at_and (slice_index s.masks p.0) new b,
+        bit_at_and (slice_index s.masks p.0) (value_at s p.0 there) b,
+        on,
+        bit_at-lt new b,
+        bit_at-lt (value_at s p.0 there) b,
+      )
 
   cut_supported : Untouched p.0 → IsFresh s (facts_at c.words) p.0 looked → IsSupported s (facts_at words) p.0
   cut_supported un fresh =
@@ -181,9 +206,11 @@ module _ (s : System) (g : List Row) (workers : ℕ) (few : workers ≤ 16) (is 
     | inl owed ↦ inr (inl (w, v, entry_here c.seats w seat v at, owing_owes (owed_by g p.0 lost) (record { 0 = q }) q refl owed))
     | inr un ↦ elim old_cover [
       | inl dirty ↦ inl (word_after IsDirty c.words p.0 left q
-          (λ here. let was : IsDirty word = subst (λ n. IsDirty (slice_index c.words n)) here dirty in (was.0, was.1, cut_dirty new word was.0 was.1 ∙ was.2)) dirty)
+          (λ here. let was : IsDirty word = subst (λ n. IsDirty (slice_index c.words n)) here dirty in
+          (was.0, was.1, cut_dirty new word was.0 was.1 ∙ was.2)) dirty)
       | inr rest ↦ elim rest [
-        | inl owes ↦ some_after (OwesIt q) (IsCovered s words (set c.seats w v) q) c.seats w seat v at (λ mine. absurd (subst (OwesIt q) mode mine)) (λ there. inr (inl there)) owes
+        | inl owes ↦ some_after (OwesIt q) (IsCovered s words (set c.seats w v) q) c.seats w seat v at (λ mine. absurd (subst (OwesIt q) mode mine))
+            (λ there. inr (inl there)) owes
         | inr more ↦ elim more [
           | inl supported ↦ inr (inr (inl (supported_kept q un supported)))
           | inr fresh ↦ some_after (IsUpToDate s (facts_at c.words) q) (IsCovered s words (set c.seats w v) q) c.seats w seat v at
@@ -197,7 +224,8 @@ module _ (s : System) (g : List Row) (workers : ℕ) (few : workers ≤ 16) (is 
 
   -- ---- dirty bits
   unset_kept : (u q : ℕ) → u < 16 → dirty_at (slice_index c.words q) u ≡ 0 → dirty_at (slice_index words q) u ≡ 0
-  unset_kept u q l unset = word_after (λ m. dirty_at m u ≡ 0) c.words p.0 left q (λ here. cut_dirty new word u l ∙ subst (λ n. dirty_at (slice_index c.words n) u ≡ 0) here unset) unset
+  unset_kept u q l unset = word_after (λ m. dirty_at m u ≡ 0) c.words p.0 left q (λ here. cut_dirty new word u l ∙
+      subst (λ n. dirty_at (slice_index c.words n) u ≡ 0) here unset) unset
 
   new_known : EachSeat (Knows words) (set c.seats w v)
   new_known = each_after (λ u other. Knows c.words u other × (u < 16)) (Knows words) c.seats w v
@@ -209,7 +237,8 @@ module _ (s : System) (g : List Row) (workers : ℕ) (few : workers ≤ 16) (is 
   cut_kept = record {
     words = length-set c.words p.0 left ∙ inv.words;
     fits = All-set (λ (m : ℕ). m < 2 ^ 64) c.words p.0 left
-        (let had : word < 2 ^ 64 = All-get_or (λ (m : ℕ). m < 2 ^ 64) c.words p.0 0 (omega (arith, inv.words, old.place)) inv.fits in omega (arith, and_le_l word (bit_or new (2 ^ 64 - 2 ^ FACT_BITS)), had)) inv.fits;
+        (let had : word < 2 ^ 64 = All-get_or (λ (m : ℕ). m < 2 ^ 64) c.words p.0 0 (omega (arith, inv.words, old.place)) inv.fits in
+        omega (arith, and_le_l word (bit_or new (2 ^ 64 - 2 ^ FACT_BITS)), had)) inv.fits;
     seats = length-set c.seats w v ∙ inv.seats;
     within = facts_masked;
     above = facts_above;

@@ -1,6 +1,7 @@
 -- Joining an idle seat into another keeps the core invariant and the two counts.
-use Rattle.std.proofs.Common.{◌≡◌, ◌≢◌, ℕ, ◌+◌, ◌<◌, ◌≤◌, List, length, set, slice_get, Some, Contains, refl, ap, sym, subst, arith, inl, inr}
+use Rattle.std.proofs.Common.{◌≡◌, ◌≢◌, ℕ, ◌+◌, ◌<◌, ◌≤◌, List, length, set, slice_get, Some, Contains, refl, ap, sym, subst, arith, inl, inr, ◌∙◌}
 use Rattle.attr_ids.specs.declared.ids.PosId.{PosId}
+use Rattle.shelf.proofs.Shelf.{get_set_other}
 use Rattle.rule_terms.specs.System.{System}
 use Rattle.dep_graph.specs.Row.{Row}
 use Rattle.dep_graph.specs.Graph.{IsGraphOf}
@@ -10,13 +11,14 @@ use Rattle.fix_core.specs.declared.state.CoreMode.TheVariants.{Idle}
 use Rattle.fix_core.specs.Machine.{facts_at, new_seat, seated, joined}
 use Rattle.fix_core.specs.Invariant.{OwesIt, IsUpToDate, AreOwed, IsMode, IsCore}
 use Rattle.fix_core.specs.Counts.{owed_count, AreCounted}
-use Rattle.fix_core.proofs.Written.{entry_here, entry_there}
+use Rattle.fix_core.proofs.Written.{entry_here}
 use Rattle.fix_core.proofs.Kept.{seat_kept, cover_kept}
 use Rattle.fix_core.proofs.Paying.{sum_seats}
 use Rattle.fix_core.proofs.Counting.{took_of, told_of, owed_of}
 
 -- a seat that keeps its mode and knows nothing new
-pub recount_kept : (s : System) (g : List Row) (workers : ℕ) → workers ≤ 16 → (c : CoreState) → IsCore s g workers c → (w : ℕ) (seat : CoreSeat) → slice_get c.seats w ≡ Some seat →
+pub recount_kept : (s : System) (g : List Row) (workers : ℕ) → workers ≤ 16 → (c : CoreState) → IsCore s g workers c → (w : ℕ) (seat : CoreSeat) →
+    slice_get c.seats w ≡ Some seat →
     (v : CoreSeat) → v.mode ≡ seat.mode → ((p : PosId) → Contains v.known p → Contains seat.known p) → IsCore s g workers (seated c w v)
 recount_kept s g workers few c inv w seat at v mode less =
     seat_kept s g workers few c inv w seat at v (subst (IsMode s g) (sym mode) (inv.modes w seat at)) (λ p has. inv.known w seat at p (less p has))
@@ -31,11 +33,14 @@ module _ (s : System) (g : List Row) (workers : ℕ) (few : workers ≤ 16) (c :
   after = record { mode = first.mode; known = first.known; took = first.took + other.took; told = first.told + other.told }
 
   still : slice_get (set c.seats w new_seat) u ≡ Some first
-  still = entry_there c.seats w u first new_seat apart here
+  still = get_set_other c.seats w u new_seat apart ∙ here
 
   pub join_kept : IsCore s g workers c → IsCore s g workers (joined c u first w other)
   join_kept inv =
-      recount_kept s g workers few (seated c w new_seat) (recount_kept s g workers few c inv w other there new_seat (sym idle) (λ p has. absurd (omega (arith, has.1)))) u first still after refl (λ p has. has)
+      recount_kept s g workers few (seated c w new_seat) (recount_kept s g workers few c inv w other there new_seat (sym idle) (λ p has. absurd (omega (
+        arith,
+        has.1,
+      )))) u first still after refl (λ p has. has)
 
   pub join_counted : AreCounted s g c → AreCounted s g (joined c u first w other)
   join_counted counted = record {

@@ -1,5 +1,6 @@
 -- Taking up, looking, telling and clearing keep the core invariant.
-use Rattle.std.proofs.Common.{◌≡◌, ◌≢◌, ℕ, ◌+◌, ◌/◌, ◌^◌, ◌<◌, ◌≤◌, Bool, true, false, if◌then◌else◌, ne_eqb, List, [], ◌∷◌, length, length-set, replicate, slice_index, slice_get, set, Option, Some, None, Contains, refl, ap, sym, ◌∙◌, subst, arith, inl, inr}
+use Rattle.std.proofs.Common.{◌≡◌, ◌≢◌, ℕ, ◌+◌, ◌/◌, ◌^◌, ◌<◌, ◌≤◌, Bool, true, false, if◌then◌else◌, ne_eqb, List, [], ◌∷◌, length, length-set, replicate}
+use Rattle.std.proofs.Common.{slice_index, slice_get, set, Option, Some, None, Contains, refl, ap, sym, ◌∙◌, subst, arith, inl, inr}
 use Rattle.std.specs.Int.{bit_at}
 use Rattle.std.proofs.Math.Pow.{pow-lt}
 use Rattle.std.proofs.lemmas.Bool.{cases_eq}
@@ -12,6 +13,7 @@ use Rattle.std.proofs.lemmas.Option.{slice_get_within, same_Some}
 use Rattle.attr_ids.specs.declared.ids.PosId.{PosId}
 use Rattle.lattice_words.specs.declared.word.TheConstants.{DIRTY}
 use Rattle.lattice_words.specs.Words.{IsWithin}
+use Rattle.shelf.proofs.Shelf.{get_set}
 use Rattle.rule_terms.specs.Reads.{reads_at, AgreeOn}
 use Rattle.rule_terms.specs.Slots.{input_at}
 use Rattle.rule_terms.specs.System.{System, inputs_of}
@@ -19,10 +21,13 @@ use Rattle.dep_graph.specs.Row.{Row}
 use Rattle.fix_core.specs.declared.state.CoreState.{CoreState}
 use Rattle.fix_core.specs.declared.state.CoreSeat.{CoreSeat}
 use Rattle.fix_core.specs.declared.state.CoreMode.TheVariants.{Idle, Open, Owes}
-use Rattle.fix_core.specs.Machine.{facts_of, facts_at, dirty_at, is_clean, cleaned, dirtied, written, seated, owing, without, after_take, after_look, after_tell, after_clear}
-use Rattle.fix_core.specs.Invariant.{SomeSeat, IsDirty, OwesIt, IsFresh, IsUpToDate, IsSupported, IsCovered, AreAbove, IsLookedAt, AreLooked, AreOwed, IsMode, Knows, IsCore}
-use Rattle.fix_core.proofs.Words.{cleaned_facts, cleaned_clean, cleaned_fits, dirtied_facts, dirtied_here, dirtied_other, word_after, word_here, word_there, facts_kept}
-use Rattle.fix_core.proofs.Written.{entry_after, entry_here, each_after, some_after, none_looked, without_apart, without_keeps}
+use Rattle.fix_core.specs.Machine.{facts_of, facts_at, dirty_at, is_clean, cleaned, dirtied, written, seated, owing, without, after_take, after_look}
+use Rattle.fix_core.specs.Machine.{after_tell, after_clear}
+use Rattle.fix_core.specs.Invariant.{SomeSeat, IsDirty, OwesIt, IsFresh, IsUpToDate, IsSupported, IsCovered, AreAbove, IsLookedAt, AreLooked, AreOwed, IsMode}
+use Rattle.fix_core.specs.Invariant.{Knows, IsCore}
+use Rattle.fix_core.proofs.Words.{cleaned_facts, cleaned_clean, cleaned_fits, dirtied_facts, dirtied_here, dirtied_other, word_after, word_here, word_there}
+use Rattle.fix_core.proofs.Words.{facts_kept}
+use Rattle.fix_core.proofs.Written.{entry_here, each_after, some_after, none_looked, without_apart, without_keeps}
 
 -- ---- words and modes
 -- a word with a dirty bit set is not clean
@@ -41,7 +46,8 @@ pub owing_owes : (list : List PosId) (d : PosId) (p : ℕ) → d.0 ≡ p → Con
 owing_owes [] d p is has = absurd (omega (arith, has.1))
 owing_owes (e ∷ es) d p is has = (d, is, has)
 
-module _ (s : System) (g : List Row) (workers : ℕ) (few : workers ≤ 16) (c : CoreState) (inv : IsCore s g workers c) (w : ℕ) (seat : CoreSeat) (at : slice_get c.seats w ≡ Some seat) where
+module _ (s : System) (g : List Row) (workers : ℕ) (few : workers ≤ 16) (c : CoreState) (inv : IsCore s g workers c) (w : ℕ) (seat : CoreSeat)
+    (at : slice_get c.seats w ≡ Some seat) where
   pub in_range : w < workers
   in_range = omega (arith, slice_get_within c.seats w seat at, inv.seats)
 
@@ -85,7 +91,8 @@ module _ (s : System) (g : List Row) (workers : ℕ) (few : workers ≤ 16) (c :
       }
 
   -- a seat alone was written
-  pub seat_kept : (v : CoreSeat) → IsMode s g v.mode → Knows c.words w v → ((q : ℕ) → IsCovered s c.words c.seats q → IsCovered s c.words (set c.seats w v) q) → IsCore s g workers (seated c w v)
+  pub seat_kept : (v : CoreSeat) → IsMode s g v.mode → Knows c.words w v → ((q : ℕ) → IsCovered s c.words c.seats q → IsCovered s c.words (set c.seats w v) q) →
+      IsCore s g workers (seated c w v)
   seat_kept v mode knows cover = record {
     words = inv.words;
     fits = inv.fits;
@@ -149,8 +156,8 @@ module _ (s : System) (g : List Row) (workers : ℕ) (few : workers ≤ 16) (c :
       record {
         place = old.place;
         long = length-set looked i (Some (facts_at c.words q)) ∙ old.long;
-        values = λ k x e. elim (entry_after looked i (Some (facts_at c.words q)) k (Some x) e) [
-          | inl is ↦ let value : x ≡ facts_at c.words q = same_Some x (facts_at c.words q) is.1 in
+        values = λ k x e. elim (get_set looked i (Some (facts_at c.words q)) k (Some x) e) [
+          | inl is ↦ let value : x ≡ facts_at c.words q = sym (same_Some (facts_at c.words q) x is.1) in
               subst (λ (y : ℕ × ℕ). IsLookedAt s (input_at (inputs_of s p.0) y.0).0 y.1) (λ j. (sym is.0 j, sym value j))
               (record { within = inv.within q; above = λ others o. inv.above others o q })
           | inr other ↦ old.values k x other.1
@@ -161,9 +168,12 @@ module _ (s : System) (g : List Row) (workers : ℕ) (few : workers ≤ 16) (c :
       IsFresh s (facts_at c.words) p.0 (set looked i (Some (facts_at c.words (input_at (inputs_of s p.0) i).0)))
   look_fresh p looked i old k x e =
       let q : ℕ = (input_at (inputs_of s p.0) i).0 in
-      elim (entry_after looked i (Some (facts_at c.words q)) k (Some x) e) [
-        | inl is ↦ let value : x ≡ facts_at c.words q = same_Some x (facts_at c.words q) is.1 in
-            subst (λ (y : ℕ × ℕ). AgreeOn (reads_at s p.0 y.0) y.1 (facts_at c.words (input_at (inputs_of s p.0) y.0).0)) (λ j. (sym is.0 j, sym value j)) (λ b l on. refl)
+      elim (get_set looked i (Some (facts_at c.words q)) k (Some x) e) [
+        | inl is ↦ let value : x ≡ facts_at c.words q = sym (same_Some (facts_at c.words q) x is.1) in
+            subst (λ (y : ℕ × ℕ). AgreeOn (reads_at s p.0 y.0) y.1 (facts_at c.words (input_at (inputs_of s p.0) y.0).0)) (λ j. (
+              sym is.0 j,
+              sym value j,
+            )) (λ b l on. refl)
         | inr other ↦ old k x other.1
       ]
 
@@ -203,7 +213,11 @@ module _ (s : System) (g : List Row) (workers : ℕ) (few : workers ≤ 16) (c :
       word_after (λ m. dirty_at m w ≡ 0) c.words d.0 n q.0 (λ here. absurd (apart.1 here)) (inv.known w seat at q apart.0))
       (λ u ne h. dirtied_other word w u ne ∙ h)
       (λ q old. elim (cases_eq q d.0) [
-        | inl here ↦ inl (w, omega (arith, in_range), subst (λ (r : ℕ). dirty_at (slice_index words r) w ≡ 1) (sym here) (ap (λ m. dirty_at m w) (word_here c.words d.0 n inside) ∙ dirtied_here word w))
+        | inl here ↦ inl (
+          w,
+          omega (arith, in_range),
+          subst (λ (r : ℕ). dirty_at (slice_index words r) w ≡ 1) (sym here) (ap (λ m. dirty_at m w) (word_here c.words d.0 n inside) ∙ dirtied_here word w),
+        )
         | inr other ↦ cover_kept words v q same
             (λ dirty. inl (subst IsDirty (sym (word_there c.words d.0 n q other)) dirty))
             (λ owes. let owed = subst (OwesIt q) mode owes in

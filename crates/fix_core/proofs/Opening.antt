@@ -1,5 +1,6 @@
 -- The opening state meets the core invariant.
-use Rattle.std.proofs.Common.{mod-lt, ◌≡◌, ◌≢◌, ℕ, zero, suc, ◌+◌, ◌-◌, ◌%◌, ◌^◌, ◌<◌, ◌≤◌, List, [], ◌∷◌, length, replicate, slice_index, slice_get, Some, All, refl, ap, sym, ◌∙◌, subst, arith, inl, inr}
+use Rattle.std.proofs.Common.{mod-lt, ◌≡◌, ◌≢◌, ℕ, zero, suc, ◌+◌, ◌-◌, ◌%◌, ◌^◌, ◌<◌, ◌≤◌, List, [], ◌∷◌, length, replicate, slice_index, slice_get, Some, All}
+use Rattle.std.proofs.Common.{refl, ap, sym, ◌∙◌, subst, arith, inl, inr}
 use Rattle.std.specs.Int.{bit_at}
 use Rattle.std.proofs.Math.Pow.{pow-lt}
 use Rattle.std.proofs.lemmas.Bool.{cases_lt}
@@ -23,10 +24,12 @@ opening_long workers k [] = refl
 opening_long workers k (mask ∷ masks) = ap suc (opening_long workers (suc k) masks)
 
 -- each word is its mask, dirty for one seat
-pub opening_at : (workers k : ℕ) (masks : List ℕ) (p : ℕ) → p < length masks → slice_index (opening_words workers k masks) p ≡ dirtied (slice_index masks p) ((k + p) % workers)
+pub opening_at : (workers k : ℕ) (masks : List ℕ) (p : ℕ) → p < length masks →
+    slice_index (opening_words workers k masks) p ≡ dirtied (slice_index masks p) ((k + p) % workers)
 opening_at workers k [] p l = absurd (omega arith)
 opening_at workers k (mask ∷ masks) zero l = ap (λ j. dirtied mask (j % workers)) (let same : k ≡ k + 0 = omega arith in same)
-opening_at workers k (mask ∷ masks) (suc p) l = opening_at workers (suc k) masks p (omega arith) ∙ ap (λ j. dirtied (slice_index masks p) (j % workers)) (let same : suc k + p ≡ k + suc p = omega arith in same)
+opening_at workers k (mask ∷ masks) (suc p) l = opening_at workers (suc k) masks p (omega arith) ∙
+    ap (λ j. dirtied (slice_index masks p) (j % workers)) (let same : suc k + p ≡ k + suc p = omega arith in same)
 
 -- a number of one of so many seats
 number_small : (k workers : ℕ) → 0 < workers → k % workers < workers
@@ -35,7 +38,8 @@ number_small k workers some = omega (arith, mod-lt k some)
 dirtied_fits : (mask w : ℕ) → mask < 2 ^ FACT_BITS → w < 16 → dirtied mask w < 2 ^ 64
 dirtied_fits mask w l k = or_lt 64 mask (2 ^ (DIRTY + w)) (omega arith) (let below : DIRTY + w < 64 = omega arith in pow-lt below)
 
-pub opening_fits : (workers k : ℕ) (masks : List ℕ) → 0 < workers → workers ≤ 16 → All (λ mask. mask < 2 ^ FACT_BITS) masks → All (λ word. word < 2 ^ 64) (opening_words workers k masks)
+pub opening_fits : (workers k : ℕ) (masks : List ℕ) → 0 < workers → workers ≤ 16 → All (λ mask. mask < 2 ^ FACT_BITS) masks →
+    All (λ word. word < 2 ^ 64) (opening_words workers k masks)
 opening_fits workers k [] some few facts = All-nil (λ (word : ℕ). word < 2 ^ 64)
 opening_fits workers k (mask ∷ masks) some few facts = All-cons (λ (word : ℕ). word < 2 ^ 64) (dirtied mask (k % workers)) (opening_words workers (suc k) masks)
     (dirtied_fits mask (k % workers) (All-head (λ (m : ℕ). m < 2 ^ FACT_BITS) mask masks facts) (omega (arith, number_small k workers some)))
@@ -59,7 +63,8 @@ module _ (s : System) (g : List Row) (workers : ℕ) (is : IsSystem s) (some : 0
   mask_small p l = All-get_or (λ (m : ℕ). m < 2 ^ FACT_BITS) s.masks p 0 l is.facts
 
   -- what holds of each word past the end, and of each mask that is dirty for one seat, holds of each word
-  each_word : (P : ℕ → ℕ → Type 0) → ((p : ℕ) → length s.masks ≤ p → P p 0) → ((p w : ℕ) → p < length s.masks → w < workers → P p (dirtied (slice_index s.masks p) w)) → (p : ℕ) → P p (slice_index words p)
+  each_word : (P : ℕ → ℕ → Type 0) → ((p : ℕ) → length s.masks ≤ p → P p 0) →
+      ((p w : ℕ) → p < length s.masks → w < workers → P p (dirtied (slice_index s.masks p) w)) → (p : ℕ) → P p (slice_index words p)
   each_word P past here p = elim (cases_lt p (length s.masks)) [
     | inl inside ↦ subst (P p) (sym (opened p inside)) (here p (p % workers) inside (number_small p workers some))
     | inr outside ↦ subst (P p) (sym (get_or_past words p 0 (omega (arith, opening_long workers 0 s.masks)))) (past p outside)
@@ -93,6 +98,7 @@ module _ (s : System) (g : List Row) (workers : ℕ) (is : IsSystem s) (some : 0
       subst (λ n. bit_at n (DIRTY + p % workers) ≡ 1) (sym (opened p l)) (dirtied_here (slice_index s.masks p) (p % workers)),
     );
     numbers = λ p u l h. each_word (λ q word. dirty_at word u ≡ 0) (λ q k. bit_at-zero (DIRTY + u))
-        (λ q w k j. let ne : u ≢ w = λ e. absurd (omega arith) in dirtied_other (slice_index s.masks q) w u ne ∙ bit_at_above (slice_index s.masks q) FACT_BITS (DIRTY + u) (mask_small q k) (omega arith)) p;
+        (λ q w k j. let ne : u ≢ w = λ e. absurd (omega arith) in dirtied_other (slice_index s.masks q) w u ne ∙
+        bit_at_above (slice_index s.masks q) FACT_BITS (DIRTY + u) (mask_small q k) (omega arith)) p;
     known = λ w seat e. subst (λ (x : CoreSeat). Knows words w x) (replicated workers new_seat w seat e) (λ p has. absurd (omega (arith, has.1)));
   }

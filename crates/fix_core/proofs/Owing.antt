@@ -1,5 +1,6 @@
 -- Lists of positions that read what fell, and positions that a list names.
-use Rattle.std.proofs.Common.{◌≡◌, ℕ, zero, suc, ◌<◌, ◌||◌, Bool, true, false, cond, eqb, eqb-true, eq-eqb, List, [], ◌∷◌, length, slice_get, bit_and, Some, All, Contains, refl, ap, sym, ◌∙◌, arith}
+use Rattle.std.proofs.Common.{◌≡◌, ℕ, zero, suc, ◌<◌, ◌||◌, Bool, true, false, cond, eqb, eqb-true, eq-eqb, List, [], ◌∷◌, length, slice_get, bit_and, Some}
+use Rattle.std.proofs.Common.{All, Contains, refl, ap, sym, ◌∙◌, arith}
 use Rattle.std.specs.List.{AllPairs}
 use Rattle.std.proofs.lemmas.List.Elements.{All-cons, All-head, All-tail, All-nil, Contains-append_right}
 use Rattle.std.proofs.lemmas.List.Folds.{list_any_at}
@@ -39,16 +40,21 @@ readers_all P lost (d ∷ ds) (bits ∷ reads) h = by_case (eqb (bit_and bits lo
 pub readers_pairs : (R : PosId → PosId → Type 0) (lost : ℕ) (ds : List PosId) (reads : List ℕ) → AllPairs R ds → AllPairs R (readers_of lost ds reads)
 readers_pairs R lost [] reads h = h
 readers_pairs R lost (d ∷ ds) [] h = λ i j e l k. absurd (omega arith)
-readers_pairs R lost (d ∷ ds) (bits ∷ reads) h = by_case (eqb (bit_and bits lost) 0) (readers_pairs R lost ds reads (λ i j e l k. h (suc i) (suc j) e (omega arith) (omega arith))) where
-  by_case : (b : Bool) → AllPairs R (readers_of lost ds reads) → AllPairs R (cond b (readers_of lost ds reads) (d ∷ readers_of lost ds reads))
-  by_case true rest = rest
-  by_case false rest = AllPairs-cons R d (readers_of lost ds reads) (readers_all (R d) lost ds reads (λ k e l. h zero (suc k) e (omega arith) (omega arith))) rest
+readers_pairs R lost (d ∷ ds) (bits ∷ reads) h =
+    by_case (eqb (bit_and bits lost) 0) (readers_pairs R lost ds reads (λ i j e l k. h (suc i) (suc j) e (omega arith) (omega arith))) where
+      by_case : (b : Bool) → AllPairs R (readers_of lost ds reads) → AllPairs R (cond b (readers_of lost ds reads) (d ∷ readers_of lost ds reads))
+      by_case true rest = rest
+      by_case false rest = AllPairs-cons R d (readers_of lost ds reads)
+          (readers_all (R d) lost ds reads (λ k e l. h zero (suc k) e (omega arith) (omega arith)))
+          rest
 
 pub readers_from : (lost : ℕ) (ds : List PosId) (reads : List ℕ) (d : PosId) → Contains (readers_of lost ds reads) d → Contains ds d
 readers_from lost [] reads d has = has
 readers_from lost (x ∷ xs) [] d has = absurd (omega (arith, has.1))
-readers_from lost (x ∷ xs) (bits ∷ reads) d has = by_case (eqb (bit_and bits lost) 0) (λ h. Contains-append_right (x ∷ []) xs d (readers_from lost xs reads d h)) has where
-  by_case : (b : Bool) → (Contains (readers_of lost xs reads) d → Contains (x ∷ xs) d) → Contains (cond b (readers_of lost xs reads) (x ∷ readers_of lost xs reads)) d → Contains (x ∷ xs) d
-  by_case true rest h = rest h
-  by_case false rest (zero, l, e) = (zero, omega arith, e)
-  by_case false rest (suc k, l, e) = rest (k, omega arith, e)
+readers_from lost (x ∷ xs) (bits ∷ reads) d has =
+    by_case (eqb (bit_and bits lost) 0) (λ h. Contains-append_right (x ∷ []) xs d (readers_from lost xs reads d h)) has where
+      by_case : (b : Bool) → (Contains (readers_of lost xs reads) d → Contains (x ∷ xs) d) →
+          Contains (cond b (readers_of lost xs reads) (x ∷ readers_of lost xs reads)) d → Contains (x ∷ xs) d
+      by_case true rest h = rest h
+      by_case false rest (zero, l, e) = (zero, omega arith, e)
+      by_case false rest (suc k, l, e) = rest (k, omega arith, e)

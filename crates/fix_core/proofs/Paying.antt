@@ -1,5 +1,7 @@
 -- What each event changes of the counts of one word and one seat.
-use Rattle.std.proofs.Common.{◌≡◌, ◌≢◌, ℕ, zero, suc, ◌+◌, ◌-◌, ◌*◌, ◌/◌, ◌%◌, ◌^◌, ◌<◌, ◌≤◌, Bool, true, false, not, cond, eqb, eqb-true, eq-eqb, List, [], ◌∷◌, length, slice_index, slice_index_or, slice_get, set, bit_and, bit_or, count_ones, Some, Contains, refl, ap, sym, ◌∙◌, subst, arith, inl, inr, suc-mul, mul-le-mul, le_refl, mod-lt}
+use Rattle.std.proofs.Common.{◌≡◌, ◌≢◌, ℕ, zero, suc, ◌+◌, ◌-◌, ◌*◌, ◌/◌, ◌%◌, ◌^◌, ◌<◌, ◌≤◌, Bool, true, false, not, cond, eqb, eqb-true, eq-eqb, List, []}
+use Rattle.std.proofs.Common.{◌∷◌, length, slice_index, slice_index_or, slice_get, set, bit_and, bit_or, count_ones, Some, Contains, refl, ap, sym, ◌∙◌, subst}
+use Rattle.std.proofs.Common.{arith, inl, inr, suc-mul, mul-le-mul, le_refl, mod-lt}
 use Rattle.std.specs.Int.{bit_at}
 use Rattle.std.specs.List.{sum_by}
 use Rattle.std.specs.Int.Bits.{mask_lt}
@@ -24,7 +26,8 @@ high : (n w : ℕ) → bit_at (n / 2 ^ DIRTY) w ≡ dirty_at n w
 high n w =
     let parts : n / 2 ^ DIRTY * 2 ^ DIRTY + n % 2 ^ DIRTY ≡ n = div-add-mod' n (2 ^ DIRTY) in
     let low : n % 2 ^ DIRTY < 2 ^ DIRTY = mod-lt n (let some : 0 < 2 ^ DIRTY = omega arith in some) in
-    let at : bit_at (n / 2 ^ DIRTY * 2 ^ DIRTY + n % 2 ^ DIRTY) (DIRTY + w) ≡ bit_at (n / 2 ^ DIRTY) (DIRTY + w - DIRTY) = bit_at_cat_high (n / 2 ^ DIRTY) DIRTY (n % 2 ^ DIRTY) (DIRTY + w) low (omega arith) in
+    let at : bit_at (n / 2 ^ DIRTY * 2 ^ DIRTY + n % 2 ^ DIRTY) (DIRTY + w) ≡ bit_at (n / 2 ^ DIRTY) (DIRTY + w - DIRTY) =
+    bit_at_cat_high (n / 2 ^ DIRTY) DIRTY (n % 2 ^ DIRTY) (DIRTY + w) low (omega arith) in
     let place : DIRTY + w - DIRTY ≡ w = omega arith in
     sym (ap (λ m. bit_at m (DIRTY + w)) (sym parts) ∙ at ∙ ap (bit_at (n / 2 ^ DIRTY)) place)
 
@@ -38,7 +41,8 @@ cleaned_count n =
 pub take_pays : (n took : ℕ) (b : Bool) → is_clean n ≡ b → cond b took (took + 1) ≤ took + dirty_count n
 take_pays n took true e = omega arith
 take_pays n took false e =
-    let dirty : n / 2 ^ DIRTY ≢ 0 = λ none. let clean : is_clean n ≡ true = eq-eqb (n / 2 ^ DIRTY) 0 none in let bad : false ≡ true = sym e ∙ clean in absurd (cc) in
+    let dirty : n / 2 ^ DIRTY ≢ 0 = λ none. let clean : is_clean n ≡ true = eq-eqb (n / 2 ^ DIRTY) 0 none in let bad : false ≡ true = sym e ∙ clean in
+    absurd (cc) in
     omega (arith, ones_some (n / 2 ^ DIRTY) dirty)
 
 -- a tell that sets a bit counts it
@@ -56,7 +60,8 @@ tell_pays n w told false e =
       | inl none ↦ (let bad : false ≡ true = sym e ∙ eq-eqb (dirty_at n w) 0 none in absurd (cc))
       | inr some ↦ omega (arith, bit_at-lt n (DIRTY + w), some)
     ] in
-    let same : dirtied n w / 2 ^ DIRTY ≡ n / 2 ^ DIRTY = same_from_bits (dirtied n w / 2 ^ DIRTY) (n / 2 ^ DIRTY) (λ j. high (dirtied n w) j ∙ elim (cases_eq j w) [
+    let same : dirtied n w / 2 ^ DIRTY ≡ n / 2 ^ DIRTY = same_from_bits (dirtied n w / 2 ^ DIRTY) (n / 2 ^ DIRTY) (λ j. high (dirtied n w) j ∙
+    elim (cases_eq j w) [
       | inl here ↦ subst (λ u. dirty_at (dirtied n w) u ≡ bit_at (n / 2 ^ DIRTY) u) (sym here) (dirtied_here n w ∙ sym (high n w ∙ set_already))
       | inr other ↦ dirtied_other n w j other ∙ sym (high n j)
     ]) in
@@ -83,7 +88,8 @@ readers_few : (lost : ℕ) (ds : List PosId) (reads : List ℕ) → length (read
 readers_few lost [] reads = omega arith
 readers_few lost (d ∷ ds) [] = omega arith
 readers_few lost (d ∷ ds) (bits ∷ reads) = by_case (eqb (bit_and bits lost) 0) (readers_few lost ds reads) where
-  by_case : (b : Bool) → length (readers_of lost ds reads) ≤ length ds → length (cond b (readers_of lost ds reads) (d ∷ readers_of lost ds reads)) ≤ suc (length ds)
+  by_case : (b : Bool) → length (readers_of lost ds reads) ≤ length ds →
+      length (cond b (readers_of lost ds reads) (d ∷ readers_of lost ds reads)) ≤ suc (length ds)
   by_case true rest = omega arith
   by_case false rest = omega arith
 
@@ -106,12 +112,19 @@ cut_pays mask new n row within =
     let less : (i : ℕ) → bit_at has i ≤ bit_at had i = λ i. omega (arith, cut_facts new n i) in
     let most : count_ones had ≤ count_ones mask = ones_less (had + mask) had mask (omega arith) (omega arith) within in
     elim (cases_lt (count_ones has) (count_ones had)) [
-      | inl fell ↦ pays_more (count_ones mask) (count_ones had) (count_ones has) (length row.dependents) (length (readers_of (lost_by new n) row.dependents row.reads))
+      | inl fell ↦ pays_more (count_ones mask) (count_ones had) (count_ones has) (length row.dependents)
+          (length (readers_of (lost_by new n) row.dependents row.reads))
           fell most (readers_few (lost_by new n) row.dependents row.reads)
       | inr stayed ↦
           let same : has ≡ had = ones_same (has + had) has had (omega arith) (omega arith) less stayed in
-          let nothing : lost_by new n ≡ 0 = same_from_bits (lost_by new n) 0 (λ i. omega (arith, bit_at_xor had has i, ap (λ m. bit_at m i) same, bit_at-zero i)) in
-          omega (arith, ap (λ l. length (readers_of l row.dependents row.reads)) nothing, readers_none row.dependents row.reads, ap (λ m. (count_ones mask - count_ones m) * length row.dependents) same)
+          let nothing : lost_by new n ≡ 0 =
+          same_from_bits (lost_by new n) 0 (λ i. omega (arith, bit_at_xor had has i, ap (λ m. bit_at m i) same, bit_at-zero i)) in
+          omega (
+            arith,
+            ap (λ l. length (readers_of l row.dependents row.reads)) nothing,
+            readers_none row.dependents row.reads,
+            ap (λ m. (count_ones mask - count_ones m) * length row.dependents) same,
+          )
     ]
 
 -- ---- what a seat owes
@@ -140,14 +153,16 @@ without_fewer d (x ∷ xs) (suc k, l, is) = by_case (not (eqb d.0 x.0)) (without
 
 -- ---- sums
 -- a sum over seats, once one was written
-pub sum_seats : (f : CoreSeat → ℕ) (seats : List CoreSeat) (w : ℕ) (seat v : CoreSeat) → slice_get seats w ≡ Some seat → sum_by f (set seats w v) + f seat ≡ sum_by f seats + f v
+pub sum_seats : (f : CoreSeat → ℕ) (seats : List CoreSeat) (w : ℕ) (seat v : CoreSeat) → slice_get seats w ≡ Some seat →
+    sum_by f (set seats w v) + f seat ≡ sum_by f seats + f v
 sum_seats f seats w seat v at =
     let is : slice_index_or seats w seat ≡ seat = get_or_from_slice_get seats w seat seat at in
     omega (arith, sum_by-set f seats w v seat (slice_get_within seats w seat at), ap f is)
 
 -- what is paid, once the word of a position was written
 pub paid_set : (masks words : List ℕ) (g : List Row) (p n : ℕ) → p < length masks → p < length words → p < length g →
-    paid masks (set words p n) g + paid_for (slice_index masks p) (slice_index words p) (row_at g p) ≡ paid masks words g + paid_for (slice_index masks p) n (row_at g p)
+    paid masks (set words p n) g + paid_for (slice_index masks p) (slice_index words p) (row_at g p) ≡ paid masks words g + paid_for (slice_index masks p) n
+    (row_at g p)
 paid_set [] words g p n l k j = absurd (omega arith)
 paid_set (mask ∷ masks) [] g p n l k j = absurd (omega arith)
 paid_set (mask ∷ masks) (word ∷ words) [] p n l k j = absurd (omega arith)

@@ -12,7 +12,8 @@ use Rattle.fix_core.specs.declared.event.CoreEvent.TheVariants.{Take, Look, Cut,
 use Rattle.fix_core.specs.declared.state.CoreState.{CoreState}
 use Rattle.fix_core.specs.declared.state.CoreMode.{CoreMode}
 use Rattle.fix_core.specs.declared.state.CoreMode.TheVariants.{Idle, Open, Owes}
-use Rattle.fix_core.specs.Machine.{dirty_at, dirtied, cut_to, word_at, seat_at, new_seat, written, seated, values_of, has_all, after_cut, after_tell, after_clear, take_step, look_step, cut_step, tell_step, clear_step, step, run_of, IsEvent}
+use Rattle.fix_core.specs.Machine.{dirty_at, dirtied, cut_to, word_at, seat_at, new_seat, written, seated, values_of, has_all, after_cut, after_tell}
+use Rattle.fix_core.specs.Machine.{after_clear, take_step, look_step, cut_step, tell_step, clear_step, step, run_of, IsEvent}
 use Rattle.fix_core.specs.Invariant.{IsCore}
 use Rattle.fix_core.proofs.Kept.{take_kept, look_kept, tell_kept, clear_kept}
 use Rattle.fix_core.proofs.Cutting.{cut_kept}
@@ -67,7 +68,8 @@ module _ (s : System) (g : List Row) (is : IsSystem s) (of : IsGraphOf s g) (wor
     event_kept (Tell w d) may = tell w may.0 d may.1 (seat_at c w).mode refl
     event_kept (Clear w p) may = clear w may.0 p (seat_at c w).mode
 
-  pub events_kept : (events : List CoreEvent) → All (IsEvent (length s.masks) workers) events → (c : CoreState) → IsCore s g workers c → IsCore s g workers (run_of s g c events)
+  pub events_kept : (events : List CoreEvent) → All (IsEvent (length s.masks) workers) events → (c : CoreState) → IsCore s g workers c →
+      IsCore s g workers (run_of s g c events)
   events_kept [] may c inv = inv
   events_kept (e ∷ es) may c inv = events_kept es (All-tail (IsEvent (length s.masks) workers) e es may) (step s g c e)
       (event_kept c inv e (All-head (IsEvent (length s.masks) workers) e es may))

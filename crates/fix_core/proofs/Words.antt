@@ -1,9 +1,11 @@
 -- Bits of words: what taking up, telling and cutting leave of them.
-use Rattle.std.proofs.Common.{◌≡◌, ◌≢◌, ℕ, zero, suc, ◌+◌, ◌-◌, ◌^◌, ◌<◌, ◌≤◌, min, bit_or, List, [], ◌∷◌, length, slice_index, set, refl, ap, sym, ◌∙◌, arith, inl, inr}
+use Rattle.std.proofs.Common.{◌≡◌, ◌≢◌, ℕ, zero, suc, ◌+◌, ◌-◌, ◌^◌, ◌<◌, ◌≤◌, min, bit_or, List, [], ◌∷◌, length, slice_index, set, refl, ap, sym, ◌∙◌, arith}
+use Rattle.std.proofs.Common.{inl, inr}
 use Rattle.std.specs.Int.{bit_at}
 use Rattle.std.specs.Int.Bits.{and_lt}
 use Rattle.std.proofs.lemmas.Bool.{cases_lt}
-use Rattle.std.proofs.lemmas.Nat.Bits.{bit_at_and, bit_at_or, bit_at_ones, bit_at_ones_above, bit_at_mask_below, bit_at_mask_inside, bit_at-pow_same, bit_at-pow_other, bit_at-lt, same_from_bits}
+use Rattle.std.proofs.lemmas.Nat.Bits.{bit_at_and, bit_at_or, bit_at_ones, bit_at_ones_above, bit_at_mask_below, bit_at_mask_inside, bit_at-pow_same}
+use Rattle.std.proofs.lemmas.Nat.Bits.{bit_at-pow_other, bit_at-lt, same_from_bits}
 use Rattle.lattice_words.specs.declared.word.TheConstants.{DIRTY, FACT_BITS}
 use Rattle.fix_core.specs.Machine.{facts_of, facts_at, dirty_at, cleaned, dirtied, cut_to}
 
@@ -23,10 +25,12 @@ facts_same a b h = same_from_bits (facts_of a) (facts_of b) (λ i. elim (cases_l
 
 -- ---- words with their dirty bits unset
 pub cleaned_facts : (n : ℕ) → facts_of (cleaned n) ≡ facts_of n
-cleaned_facts n = facts_same (cleaned n) n (λ i l. let on : bit_at (2 ^ DIRTY - 1) i ≡ 1 = bit_at_ones DIRTY i (omega arith) in omega (arith, bit_at_and n (2 ^ DIRTY - 1) i, on, bit_at-lt n i))
+cleaned_facts n = facts_same (cleaned n) n (λ i l. let on : bit_at (2 ^ DIRTY - 1) i ≡ 1 = bit_at_ones DIRTY i (omega arith) in
+    omega (arith, bit_at_and n (2 ^ DIRTY - 1) i, on, bit_at-lt n i))
 
 pub cleaned_clean : (n w : ℕ) → dirty_at (cleaned n) w ≡ 0
-cleaned_clean n w = let off : bit_at (2 ^ DIRTY - 1) (DIRTY + w) ≡ 0 = bit_at_ones_above DIRTY (DIRTY + w) (omega arith) in omega (arith, bit_at_and n (2 ^ DIRTY - 1) (DIRTY + w), off, bit_at-lt n (DIRTY + w))
+cleaned_clean n w = let off : bit_at (2 ^ DIRTY - 1) (DIRTY + w) ≡ 0 = bit_at_ones_above DIRTY (DIRTY + w) (omega arith) in
+    omega (arith, bit_at_and n (2 ^ DIRTY - 1) (DIRTY + w), off, bit_at-lt n (DIRTY + w))
 
 pub cleaned_fits : (n : ℕ) → n < 2 ^ 64 → cleaned n < 2 ^ 64
 cleaned_fits n l = and_lt 64 n (2 ^ DIRTY - 1) l (omega arith)

@@ -1,5 +1,6 @@
 -- The core machine: words of facts with a dirty bit for each seat, and seats that take words up, cut them and tell of it.
-use Rattle.std.specs.Prelude.{ℕ, suc, ◌+◌, ◌-◌, ◌/◌, ◌%◌, ◌^◌, ◌<◌, ◌==◌, if◌then◌else◌, Bool, true, false, not, bit_and, bit_or, bit_xor, List, [], ◌∷◌, ◌++◌, length, replicate, slice_index, slice_index_or, slice_set, Option, Some, None}
+use Rattle.std.specs.Prelude.{ℕ, suc, ◌+◌, ◌-◌, ◌/◌, ◌%◌, ◌^◌, ◌<◌, ◌==◌, if◌then◌else◌, Bool, true, false, not, bit_and, bit_or, bit_xor, List, [], ◌∷◌, ◌++◌}
+use Rattle.std.specs.Prelude.{length, replicate, slice_index, slice_index_or, slice_set, Option, Some, None}
 use Rattle.std.specs.List.{filter, fold}
 use Rattle.std.specs.Int.{bit_at}
 use Rattle.attr_ids.specs.declared.ids.PosId.{PosId}

@@ -8,7 +8,8 @@ ghost use Rattle.fix_core.specs.declared.event.CoreEvent.{CoreEvent};
 ghost use Rattle.fix_core.specs.declared.state.CoreState.{CoreState};
 ghost use Rattle.fix_core.specs.declared.state.CoreSeat.{CoreSeat};
 ghost use Rattle.fix_core.specs.declared.state.CoreMode.TheVariants.{Idle, Open, Owes};
-ghost use Rattle.fix_core.specs.Machine.{cleaned, dirtied, cut_to, word_at, written, seated, joined, after_take, after_look, after_cut, after_tell, after_clear};
+ghost use Rattle.fix_core.specs.Machine.{cleaned, dirtied, cut_to, word_at, written, seated, joined, after_take, after_look, after_cut, after_tell};
+ghost use Rattle.fix_core.specs.Machine.{after_clear};
 ghost use Rattle.fix_core.specs.Machine.{step, run_of, IsEvent, opening};
 ghost use Rattle.fix_core.specs.Invariant.{EachSeat, IsCore};
 ghost use Rattle.fix_core.specs.Counts.{AreCounted};
@@ -41,7 +42,8 @@ pub fn a_cut_keeps_the_counts()
 /// A tell that sets a bit leaves one position fewer owed.
 pub fn a_tell_keeps_the_counts()
     ensures { (s : System) (graph : List Row) → IsGraphOf s graph → (workers : ℕ) (c : CoreState) → IsCore s graph workers c → AreCounted s graph c →
-        (w : ℕ) (seat : CoreSeat) → slice_get c.seats w ≡ Some seat → (d : PosId) (list : List PosId) → d.0 < length s.masks → seat.mode ≡ Owes list → Contains list d →
+        (w : ℕ) (seat : CoreSeat) → slice_get c.seats w ≡ Some seat → (d : PosId) (list : List PosId) → d.0 < length s.masks → seat.mode ≡ Owes list →
+        Contains list d →
         AreCounted s graph (written c d.0 (dirtied (word_at c d.0) w) w (after_tell w d list (word_at c d.0) seat)) }
 {}
 
@@ -53,12 +55,14 @@ pub fn a_clear_keeps_the_counts()
 /// Joining an idle seat into another keeps them.
 pub fn a_join_keeps_the_counts()
     ensures { (s : System) (graph : List Row) (c : CoreState) (u : ℕ) (first : CoreSeat) (w : ℕ) (other : CoreSeat) → u ≢ w →
-        slice_get c.seats u ≡ Some first → slice_get c.seats w ≡ Some other → other.mode ≡ Idle → AreCounted s graph c → AreCounted s graph (joined c u first w other) }
+        slice_get c.seats u ≡ Some first → slice_get c.seats w ≡ Some other → other.mode ≡ Idle → AreCounted s graph c →
+        AreCounted s graph (joined c u first w other) }
 {}
 
 /// Every event keeps the two counts in a state that meets the core invariant.
 pub fn every_event_keeps_the_counts()
-    ensures { (s : System) (graph : List Row) → IsSystem s → IsGraphOf s graph → (workers : ℕ) → workers ≤ 16 → (c : CoreState) → IsCore s graph workers c → AreCounted s graph c →
+    ensures { (s : System) (graph : List Row) → IsSystem s → IsGraphOf s graph → (workers : ℕ) → workers ≤ 16 → (c : CoreState) → IsCore s graph workers c →
+        AreCounted s graph c →
         (e : CoreEvent) → IsEvent (length s.masks) workers e → AreCounted s graph (step s graph c e) }
 {}
 
@@ -70,7 +74,8 @@ pub fn counted_seats_are_within_the_budget()
 
 /// So it is in every state that is reached from the opening, in which the counts hold.
 pub fn no_run_takes_more_than_the_budget()
-    ensures counted { (s : System) (graph : List Row) → IsSystem s → IsGraphOf s graph → (workers : ℕ) → 0 < workers → workers ≤ 16 → (events : List CoreEvent) →
+    ensures counted { (s : System) (graph : List Row) → IsSystem s → IsGraphOf s graph → (workers : ℕ) → 0 < workers → workers ≤ 16 →
+        (events : List CoreEvent) →
         All (IsEvent (length s.masks) workers) events → AreCounted s graph (run_of s graph (opening s workers) events) }
     ensures all { (s : System) (graph : List Row) → IsSystem s → IsGraphOf s graph → (workers : ℕ) → 0 < workers → workers ≤ 16 → (events : List CoreEvent) →
         All (IsEvent (length s.masks) workers) events → sum_by (λ seat. seat.took) (run_of s graph (opening s workers) events).seats ≤ budget_of s graph }

@@ -35,8 +35,10 @@ pub fn a_look_keeps_the_core()
 /// A cut of the position that the seat has open, once all its inputs were looked at, keeps it.
 pub fn a_cut_keeps_the_core()
     ensures { (s : System) (graph : List Row) (workers : ℕ) → workers ≤ 16 → IsSystem s → IsGraphOf s graph → (c : CoreState) → IsCore s graph workers c →
-        (w : ℕ) (seat : CoreSeat) → slice_get c.seats w ≡ Some seat → (p : PosId) (looked : List (Option ℕ)) → seat.mode ≡ Open p looked → has_all looked ≡ true →
-        let new = value_at s p.0 (values_of looked) in IsCore s graph workers (written c p.0 (cut_to new (word_at c p.0)) w (after_cut graph p new (word_at c p.0) seat)) }
+        (w : ℕ) (seat : CoreSeat) → slice_get c.seats w ≡ Some seat → (p : PosId) (looked : List (Option ℕ)) → seat.mode ≡ Open p looked →
+        has_all looked ≡ true →
+        let new = value_at s p.0 (values_of looked) in
+        IsCore s graph workers (written c p.0 (cut_to new (word_at c p.0)) w (after_cut graph p new (word_at c p.0) seat)) }
 {}
 
 /// A seat that owes positions keeps it when it tells one.
@@ -49,13 +51,15 @@ pub fn a_tell_keeps_the_core()
 /// A seat that sees its own dirty bit unset in a word keeps it when it comes to know that.
 pub fn a_clear_keeps_the_core()
     ensures { (s : System) (graph : List Row) (workers : ℕ) → workers ≤ 16 → (c : CoreState) → IsCore s graph workers c →
-        (w : ℕ) (seat : CoreSeat) → slice_get c.seats w ≡ Some seat → (p : PosId) → dirty_at (word_at c p.0) w ≡ 0 → IsCore s graph workers (seated c w (after_clear p seat)) }
+        (w : ℕ) (seat : CoreSeat) → slice_get c.seats w ≡ Some seat → (p : PosId) → dirty_at (word_at c p.0) w ≡ 0 →
+        IsCore s graph workers (seated c w (after_clear p seat)) }
 {}
 
 /// Joining an idle seat into another keeps it.
 pub fn a_join_keeps_the_core()
     ensures { (s : System) (graph : List Row) (workers : ℕ) → workers ≤ 16 → (c : CoreState) (u : ℕ) (first : CoreSeat) (w : ℕ) (other : CoreSeat) → u ≢ w →
-        slice_get c.seats u ≡ Some first → slice_get c.seats w ≡ Some other → other.mode ≡ Idle → IsCore s graph workers c → IsCore s graph workers (joined c u first w other) }
+        slice_get c.seats u ≡ Some first → slice_get c.seats w ≡ Some other → other.mode ≡ Idle → IsCore s graph workers c →
+        IsCore s graph workers (joined c u first w other) }
 {}
 
 /// Every event keeps the core invariant, whether it is enabled or not.
@@ -68,7 +72,8 @@ pub fn every_event_keeps_the_core()
 pub fn every_list_of_events_keeps_the_core()
     ensures kept { (s : System) (graph : List Row) → IsSystem s → IsGraphOf s graph → (workers : ℕ) → workers ≤ 16 → (events : List CoreEvent) →
         All (IsEvent (length s.masks) workers) events → (c : CoreState) → IsCore s graph workers c → IsCore s graph workers (run_of s graph c events) }
-    ensures reached { (s : System) (graph : List Row) → IsSystem s → IsGraphOf s graph → (workers : ℕ) → 0 < workers → workers ≤ 16 → (events : List CoreEvent) →
+    ensures reached { (s : System) (graph : List Row) → IsSystem s → IsGraphOf s graph → (workers : ℕ) → 0 < workers → workers ≤ 16 →
+        (events : List CoreEvent) →
         All (IsEvent (length s.masks) workers) events → IsCore s graph workers (run_of s graph (opening s workers) events) }
 {}
 
@@ -86,5 +91,6 @@ pub fn a_quiet_state_has_the_greatest_words()
 
 /// What a seat owes are positions of the system.
 pub fn owed_positions_are_positions()
-    ensures { (s : System) (graph : List Row) → IsGraphOf s graph → (list : List PosId) → AreOwed s graph list → (d : PosId) → Contains list d → d.0 < length s.masks }
+    ensures { (s : System) (graph : List Row) → IsGraphOf s graph → (list : List PosId) → AreOwed s graph list → (d : PosId) → Contains list d →
+        d.0 < length s.masks }
 {}

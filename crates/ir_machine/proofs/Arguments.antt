@@ -1,6 +1,8 @@
 -- The arguments of each call are the values of its operands in the frame under it, at every moment.
-use Rattle.std.proofs.Common.{◌≡◌, ◌⊎◌, inl, inr, ℕ, ◌+◌, ◌%◌, ◌^◌, ◌==◌, ◌&&◌, not, nat_le, Bool, true, false, if◌then◌else◌, List, [], ◌∷◌, map, Option, None, Some, refl, sym, ap, subst, ◌∙◌}
+use Rattle.std.proofs.Common.{◌≡◌, ◌⊎◌, inl, inr, ℕ, ◌+◌, ◌%◌, ◌^◌, ◌==◌, ◌&&◌, not, nat_le, Bool, true, false, if◌then◌else◌, List, [], ◌∷◌, map, Option, None}
+use Rattle.std.proofs.Common.{Some, refl, sym, ap, subst, ◌∙◌}
 use Rattle.std.specs.List.{AllByRecursion}
+use Rattle.shelf.proofs.Every.{every_always}
 use Rattle.ir_types.specs.declared.ir_type.IrType.{IrType}
 use Rattle.ir_types.specs.declared.ir_type.IrType.TheVariants as type
 use Rattle.ir_module.specs.declared.op.Symbol.{Symbol}
@@ -20,13 +22,15 @@ use Rattle.ir_machine.specs.declared.choice.Choice.{Choice}
 use Rattle.ir_machine.specs.Values.{plain, carried, marked}
 use Rattle.ir_machine.specs.Memory.{Memory}
 use Rattle.ir_machine.specs.Frames.{BodyFrame, Frame, Body, Outside, State, Enter, Capture, call_of as call_in}
-use Rattle.ir_machine.specs.Moves.{Move, Says, Grows, Turns, Fills, Keeps, Sets, Goes, Takes, Begins, Ends, moved, set_on_top, gone_on_top, taken_on_top, under_top}
-use Rattle.ir_machine.specs.Reading.{Values, Picked, picked, read, read_operand, type_of, width_in, is_pointer, any_int, pick, Displacement, led_to, exact_or_poison, displaced_from, displaced, at_home, symbol_value, or_pair, zero_of, constant_way, Here}
+use Rattle.ir_machine.specs.Moves.{Move, Says, Grows, Turns, Fills, Keeps, Sets, Goes, Takes, Begins, Ends, moved, set_on_top, gone_on_top, taken_on_top}
+use Rattle.ir_machine.specs.Moves.{under_top}
+use Rattle.ir_machine.specs.Reading.{Values, Picked, picked, read, read_operand, type_of, width_in, is_pointer, any_int, pick, Displacement, led_to}
+use Rattle.ir_machine.specs.Reading.{exact_or_poison, displaced_from, displaced, at_home, symbol_value, or_pair, zero_of, constant_way, Here}
 use Rattle.ir_machine.specs.Calls.{marked_args, begun_by, passed_to, body_frame}
 use Rattle.ir_machine.specs.Steps.{plan}
 use Rattle.ir_machine.specs.Runs.{IsOpening, run}
 use Rattle.ir_machine.specs.Arguments.{Homes, IsAddressOf, IsNoAddress, IsValueOf, ArePassed, IsPassedBy, ArgumentsCome, ArgumentsAreOperands}
-use Rattle.ir_machine.proofs.Basics.{OnOutcome, on_with, on_found, on_fits, on_if, given, Along, Shown, run_law, outcome_mapped, always}
+use Rattle.ir_machine.proofs.Basics.{OnOutcome, on_with, on_found, on_fits, on_if, given, Along, Shown, run_law, outcome_mapped}
 use Rattle.ir_machine.proofs.Instructions.{IsRead, AreRead, IsNoPtr, here_in, passing_at, passing_in}
 use Rattle.ir_machine.proofs.Moving.{along_all}
 use Rattle.ir_machine.proofs.Linked.{onto}
@@ -257,4 +261,4 @@ module _ (m : Module) where
       run_law m Passed (λ d. Unit {0}) Passes (λ e. Unit {0}) (record { move = passed_moved; happens = λ t what h c. tt })
       (λ t choice h. outcome_mapped (Along Passes t) (λ moves. Unit {0} → Along Passes t moves) (plan m t choice) (λ moves along _. along)
       (passes_step t choice))
-      choices t (opening_passed t is) (always (λ d. Unit {0}) (run m t choices) (λ d. tt))
+      choices t (opening_passed t is) (every_always (λ d. Unit {0}) (run m t choices) (λ d. tt))

@@ -1,12 +1,16 @@
 -- Outcomes by their pieces, and the induction over the moves of each step of a run.
 use Rattle.std.proofs.Common.{◌≡◌, ◌≢◌, ℕ, ◌==◌, ◌++◌, Bool, true, false, if◌then◌else◌, List, [], ◌∷◌, Option, None, Some, refl, sym, subst, ◌∙◌, inl, inr}
+use Rattle.std.proofs.Common.{true≢false}
 use Rattle.std.specs.List.{AllByRecursion}
 use Rattle.std.proofs.lemmas.Bool.Decides.{eqb_tells}
+use Rattle.std.proofs.lemmas.Bool.{eqb-true}
+use Rattle.shelf.proofs.Every.{every_append, every_parts}
 use Rattle.ir_module.specs.declared.module.Module.{Module}
 use Rattle.ir_machine.specs.declared.choice.Choice.{Choice}
 use Rattle.ir_machine.specs.Memory.{put}
 use Rattle.ir_machine.specs.Frames.{State, What, Event, event}
-use Rattle.ir_machine.specs.Moves.{Move, Says, Grows, Turns, Fills, Keeps, Sets, Goes, Takes, Begins, Ends, moved, after, event_of, said, says, Outcome, Gives, Undefined, Over, Plan, with, found, needs, fits}
+use Rattle.ir_machine.specs.Moves.{Move, Says, Grows, Turns, Fills, Keeps, Sets, Goes, Takes, Begins, Ends, moved, after, event_of, said, says, Outcome, Gives}
+use Rattle.ir_machine.specs.Moves.{Undefined, Over, Plan, with, found, needs, fits}
 use Rattle.ir_machine.specs.Steps.{plan}
 use Rattle.ir_machine.specs.Runs.{Done, done, done_by, run, events_of}
 
@@ -48,20 +52,10 @@ given Q o x all is = subst (OnOutcome Q) is all
 
 -- ---- functions that are changed at one place
 
-pub clash : true ≡ false → ⊥
-clash e = cc
-
--- numbers that pass the test are one
-pub same : (n k : ℕ) → (n == k) ≡ true → n ≡ k
-same n k e = elim (eqb_tells n k) [
-  | inl (t, is) ↦ is
-  | inr (t, other) ↦ absurd (clash (sym e ∙ t))
-]
-
 -- numbers that do not pass it are two
 pub other_than : (n k : ℕ) → (n == k) ≡ false → n ≢ k
 other_than n k e = elim (eqb_tells n k) [
-  | inl (t, is) ↦ absurd (clash (sym t ∙ e))
+  | inl (t, is) ↦ absurd (true≢false (sym t ∙ e))
   | inr (t, other) ↦ other
 ]
 
@@ -71,7 +65,7 @@ unfolding put
 put_has P k new old n at_k at_n = by (n == k) refl
   where
     by : (b : Bool) → (n == k) ≡ b → P n (if b then new else old n)
-    by true e = subst (λ j. P j new) (sym (same n k e)) at_k
+    by true e = subst (λ j. P j new) (sym (eqb-true n k e)) at_k
     by false e = at_n
 
 -- the same, where the old one counts elsewhere alone
@@ -163,11 +157,6 @@ run_law m Inv P C E law steps =
     run_shows m Inv P C law.move steps (Shown Inv E)
     (λ t moves inv c. record { before = inv; next = kept_after Inv C E law t moves inv c; events = shown_said Inv C E law t moves inv c })
 
--- what holds of every step that there can be holds of the steps of a run
-pub always : (P : Done → Type 0) (steps : List Done) → ((d : Done) → P d) → AllByRecursion P steps
-always P [] all = tt
-always P (d ∷ steps) all = (all d, always P steps all)
-
 -- two facts of each move
 pub along_both : (C D : State → Move → Type 0) (t : State) (moves : List Move) → Along C t moves → Along D t moves → Along (λ t x. C t x × D t x) t moves
 along_both C D t [] c d = tt
@@ -189,31 +178,15 @@ outcome_mapped Q R (Gives x) leads q = leads x q
 outcome_mapped Q R Undefined leads q = tt
 outcome_mapped Q R Over leads q = tt
 
--- what P leads to in each step
-pub mapped_steps : (P R : Done → Type 0) (steps : List Done) → ((d : Done) → P d → R d) → AllByRecursion P steps → AllByRecursion R steps
-mapped_steps P R [] leads all = tt
-mapped_steps P R (d ∷ steps) leads all = (leads d all.0, mapped_steps P R steps leads all.1)
-
 -- ---- facts of the events of each step, and of all events
-joined_events : (P : Event → Type 0) (events rest : List Event) → AllByRecursion P events → AllByRecursion P rest → AllByRecursion P (events ++ rest)
-joined_events P [] rest here there = there
-joined_events P (e ∷ events) rest here there = (here.0, joined_events P events rest here.1 there)
-
-parted_events : (P : Event → Type 0) (events rest : List Event) → AllByRecursion P (events ++ rest) → AllByRecursion P events × AllByRecursion P rest
-parted_events P [] rest all = (tt, all)
-parted_events P (e ∷ events) rest all = let both = parted_events P events rest all.1 in ((all.0, both.0), both.1)
 
 pub of_events : (P : Event → Type 0) (steps : List Done) → AllByRecursion (λ d. AllByRecursion P d.events) steps → AllByRecursion P (events_of steps)
 of_events P [] all = tt
-of_events P (d ∷ steps) all = joined_events P d.events (events_of steps) all.0 (of_events P steps all.1)
+of_events P (d ∷ steps) all = every_append P d.events (events_of steps) all.0 (of_events P steps all.1)
 
 pub of_steps : (P : Event → Type 0) (steps : List Done) → AllByRecursion P (events_of steps) → AllByRecursion (λ d. AllByRecursion P d.events) steps
 of_steps P [] all = tt
-of_steps P (d ∷ steps) all = let both = parted_events P d.events (events_of steps) all in (both.0, of_steps P steps both.1)
-
-pub each_event : (P Q : Event → Type 0) (events : List Event) → ((e : Event) → P e → Q e) → AllByRecursion P events → AllByRecursion Q events
-each_event P Q [] leads all = tt
-each_event P Q (e ∷ events) leads all = (leads e all.0, each_event P Q events leads all.1)
+of_steps P (d ∷ steps) all = let both = every_parts P d.events (events_of steps) all in (both.0, of_steps P steps both.1)
 
 -- ---- facts of each step by itself
 module _ (m : Module) (R : Done → Type 0) (each : (t : State) (choice : Choice) → OnOutcome (λ moves. R (done t moves)) (plan m t choice)) where

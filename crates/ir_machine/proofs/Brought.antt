@@ -1,8 +1,11 @@
 -- Every step brings only values that are P, for each family of facts of values that is closed under what the machine does.
-use Rattle.std.proofs.Common.{◌≡◌, ℕ, ◌+◌, ◌&&◌, ◌<◌, nat_lt, Bool, true, false, if◌then◌else◌, List, [], ◌∷◌, length, map, Option, None, Some, refl, sym, subst, arith, inl, inr}
+use Rattle.std.proofs.Common.{◌≡◌, ℕ, ◌+◌, ◌&&◌, ◌<◌, nat_lt, Bool, true, false, if◌then◌else◌, List, [], ◌∷◌, length, map, Option, None, Some, refl, sym}
+use Rattle.std.proofs.Common.{subst, arith, inl, inr}
 use Rattle.std.specs.List.{AllByRecursion, list_any, list_all}
+use Rattle.std.proofs.lemmas.Bool.{and_parts}
 use Rattle.attr_ids.specs.declared.ids.TypeId.{TypeId}
 use Rattle.attr_ids.specs.declared.ids.ValueId.{ValueId}
+use Rattle.shelf.proofs.Every.{every_mapped, every_append, every_always}
 use Rattle.ir_module.specs.declared.op.Op.{Op}
 use Rattle.ir_module.specs.declared.op.Op.TheVariants as op
 use Rattle.ir_module.specs.declared.op.Instr.{Instr}
@@ -19,19 +22,23 @@ use Rattle.ir_machine.specs.declared.choice.Choice.{Choice}
 use Rattle.ir_machine.specs.Values.{marked, is_same_value}
 use Rattle.ir_machine.specs.Memory.{Memory, put, Live, Closed, is_dead, without_allocas}
 use Rattle.ir_machine.specs.Frames.{What, Read, Write, Capture, BodyFrame, OutsideFrame, Frame, Body, Outside, State}
-use Rattle.ir_machine.specs.Moves.{Move, Says, Grows, Turns, Fills, Keeps, Sets, Goes, Takes, Begins, Ends, moved, set_on_top, gone_on_top, taken_on_top, under_top, says, Gives}
+use Rattle.ir_machine.specs.Moves.{Move, Says, Grows, Turns, Fills, Keeps, Sets, Goes, Takes, Begins, Ends, moved, set_on_top, gone_on_top, taken_on_top}
+use Rattle.ir_machine.specs.Moves.{under_top, says, Gives}
 use Rattle.ir_machine.specs.Reading.{is_pointer, type_of, Values, Here}
 use Rattle.ir_machine.specs.Access.{hidden}
 use Rattle.ir_machine.specs.Edges.{Crossing, crossing}
 use Rattle.ir_module.specs.declared.module.Param.{Param}
-use Rattle.ir_machine.specs.Calls.{is_end_name, Passing, params_of, entered, passed_to, marked_args, body_frame, takes, with_result, marks_last, turns, is_alloca_result}
-use Rattle.ir_machine.specs.Outside.{block_in, offset_in, can_use, can_touch, can_pass, is_value_of, return_type, can_return, pointers_in, taking, reads_at, is_ptr, can_write, captures_in, written_at}
+use Rattle.ir_machine.specs.Calls.{is_end_name, Passing, params_of, entered, passed_to, marked_args, body_frame, takes, with_result, marks_last, turns}
+use Rattle.ir_machine.specs.Calls.{is_alloca_result}
+use Rattle.ir_machine.specs.Outside.{block_in, offset_in, can_use, can_touch, can_pass, is_value_of, return_type, can_return, pointers_in, taking, reads_at}
+use Rattle.ir_machine.specs.Outside.{is_ptr, can_write, captures_in, written_at}
 use Rattle.ir_machine.specs.Steps.{plan}
 use Rattle.ir_machine.specs.Valid.{Scope, scope_of, IsSomeOf, IsByteOf, HasAll, AllAre}
 use Rattle.ir_machine.proofs.Basics.{OnOutcome, given, put_has, Along, along_says}
 use Rattle.ir_machine.proofs.Instructions.{IsBare, EachKind, EachAct, here_in, IsReadOr, by_step, passing_at, passing_in}
 use Rattle.ir_machine.proofs.Moving.{IsCrossing, crossed, IsOnward, SetsFirst, IsGoingOn, went_on, IsComing, came, IsThrough, went_through}
-use Rattle.ir_machine.proofs.Carried.{IsCarried, mapped, joined, read_has, operand_has, operands_have, computed_has, bytes_from_have, overlaid_has, loaded_has, stored_has, entered_has, came_back_has, with_result_has, bound_has, used_has, both}
+use Rattle.ir_machine.proofs.Carried.{IsCarried, read_has, operand_has, operands_have, computed_has, bytes_from_have, overlaid_has, loaded_has, stored_has}
+use Rattle.ir_machine.proofs.Carried.{entered_has, came_back_has, with_result_has, bound_has, used_has}
 
 -- ---- scopes
 
@@ -76,15 +83,15 @@ some_mapped P R leads (Some x) is = leads x is
 
 frame_mapped : (P R : Value → Type 0) → ((x : Value) → P x → R x) → (frame : Frame) → HasAll P frame → HasAll R frame
 frame_mapped P R leads (Body f) has =
-    ((mapped P R f.call.passed leads has.0.0, mapped P R f.call.args leads has.0.1), (λ v. some_mapped P R leads (f.values v) (has.1 v)))
+    ((every_mapped P R f.call.passed leads has.0.0, every_mapped P R f.call.args leads has.0.1), (λ v. some_mapped P R leads (f.values v) (has.1 v)))
 frame_mapped P R leads (Outside f) has =
-    ((mapped P R f.call.passed leads has.0.0, mapped P R f.call.args leads has.0.1), mapped P R f.hand leads has.1)
+    ((every_mapped P R f.call.passed leads has.0.0, every_mapped P R f.call.args leads has.0.1), every_mapped P R f.hand leads has.1)
 
 -- what holds of each value holds of each of them in another way too
 pub all_mapped : (P R : Value → Type 0) → ((x : Value) → P x → R x) → (t : State) → AllAre P t → AllAre R t
 all_mapped P R leads t all = record {
-  frames = mapped (HasAll P) (HasAll R) t.stack (frame_mapped P R leads) all.frames;
-  kept = mapped P R t.kept leads all.kept;
+  frames = every_mapped (HasAll P) (HasAll R) t.stack (frame_mapped P R leads) all.frames;
+  kept = every_mapped P R t.kept leads all.kept;
   bytes = λ b at. byte_mapped P R leads (t.memory.bytes b at) (all.bytes b at);
 }
 
@@ -102,7 +109,7 @@ module _ (P : Value → Type 0) where
   taken_has : (x : Value) (stack : List Frame) → P x → AllByRecursion (HasAll P) stack → AllByRecursion (HasAll P) (taken_on_top x stack)
   taken_has x [] has all = tt
   taken_has x (Body f ∷ below) has all = all
-  taken_has x (Outside f ∷ below) has all = ((all.0.0, joined P f.hand (x ∷ []) all.0.1 (has, tt)), all.1)
+  taken_has x (Outside f ∷ below) has all = ((all.0.0, every_append P f.hand (x ∷ []) all.0.1 (has, tt)), all.1)
 
   under_has : (stack : List Frame) → AllByRecursion (HasAll P) stack → AllByRecursion (HasAll P) (under_top stack)
   under_has [] all = tt
@@ -130,7 +137,8 @@ module _ (P : Scope → Value → Type 0) (closed : IsClosed P) where
     kept = all.kept;
     bytes = λ b at. put_has (λ n bytes. IsByteOf (P (scope_of t)) (bytes at)) block bytes t.memory.bytes b (brings at) (all.bytes b at);
   }
-  all_moved t (Keeps x) all brings = record { frames = all.frames; kept = joined (P (scope_of t)) t.kept (x ∷ []) all.kept (brings, tt); bytes = all.bytes }
+  all_moved t (Keeps x) all brings =
+      record { frames = all.frames; kept = every_append (P (scope_of t)) t.kept (x ∷ []) all.kept (brings, tt); bytes = all.bytes }
   all_moved t (Sets v x) all brings = record { frames = set_has (P (scope_of t)) v x t.stack brings all.frames; kept = all.kept; bytes = all.bytes }
   all_moved t (Goes spot) all brings = record { frames = gone_has (P (scope_of t)) spot t.stack all.frames; kept = all.kept; bytes = all.bytes }
   all_moved t (Takes x) all brings = record { frames = taken_has (P (scope_of t)) x t.stack brings all.frames; kept = all.kept; bytes = all.bytes }
@@ -240,11 +248,7 @@ module _ (P : Scope → Value → Type 0) (closed : IsClosed P) where
 
   -- things that happen bring no value
   along_whats : (u : State) (whats : List What) (moves : List Move) → Along Brought u moves → Along Brought u (says whats moves)
-  along_whats u whats moves rest = along_says Brought u whats moves (silent whats) rest
-    where
-      silent : (whats : List What) → AllByRecursion (λ what. Unit {0}) whats
-      silent [] = tt
-      silent (what ∷ whats) = (tt, silent whats)
+  along_whats u whats moves rest = along_says Brought u whats moves (every_always (λ what. Unit {0}) whats (λ what. tt)) rest
 
   module _ (m : Module) (t : State) (exist : (s : Symbol) (b : ℕ) → t.memory.home s ≡ Some b → b < t.memory.count) (all : AllAre (P (scope_of t)) t) where
     stack_has : (stack : List Frame) → t.stack ≡ stack → AllByRecursion (HasAll (P (scope_of t))) stack
@@ -395,13 +399,13 @@ module _ (P : Scope → Value → Type 0) (closed : IsClosed P) where
         byte_used hand (byte.Number n) can = tt
         byte_used hand byte.Undef can = tt
         byte_used hand byte.Poison can = tt
-        byte_used hand (byte.Fragment k x) can = used hand x (both (nat_lt k 8 && is_ptr x.datum) (can_use t frame x) can).1
+        byte_used hand (byte.Fragment k x) can = used hand x (and_parts (nat_lt k 8 && is_ptr x.datum) (can_use t frame x) can).1
 
         bytes_used : AllByRecursion (P (scope_of t)) frame.hand → (bytes : List Byte) → list_all (can_write t frame) bytes ≡ true →
             AllByRecursion (IsByteOf (P (scope_of t))) bytes
         bytes_used hand [] can = tt
         bytes_used hand (b ∷ bytes) can =
-            let parts = both (can_write t frame b) (list_all (can_write t frame) bytes) can in
+            let parts = and_parts (can_write t frame b) (list_all (can_write t frame) bytes) can in
             (byte_used hand b parts.0, bytes_used hand bytes parts.1)
 
         written_has : AllByRecursion (P (scope_of t)) frame.hand → (p : Value) (bytes : List Byte) →
@@ -409,7 +413,7 @@ module _ (P : Scope → Value → Type 0) (closed : IsClosed P) where
             IsByteOf (P (scope_of t)) (written_at t.memory p bytes at)
         written_has hand p bytes can at =
             overlaid_has t.memory.count (P (scope_of t)) (closed.carried (scope_of t)) (offset_in p.datum) bytes (t.memory.bytes (block_in p.datum)) at
-            (bytes_used hand bytes (both (can_use t frame p && can_touch t.memory (length bytes) p.datum) (list_all (can_write t frame) bytes) can).1)
+            (bytes_used hand bytes (and_parts (can_use t frame p && can_touch t.memory (length bytes) p.datum) (list_all (can_write t frame) bytes) can).1)
             (all.bytes (block_in p.datum) at)
 
         passed_have : AllByRecursion (P (scope_of t)) frame.hand → (params : List Param) (xs : List Value) → can_pass m t frame params xs ≡ true →
@@ -418,14 +422,14 @@ module _ (P : Scope → Value → Type 0) (closed : IsClosed P) where
         passed_have hand [] (x ∷ xs) can = absurd (cc)
         passed_have hand (p ∷ params) [] can = absurd (cc)
         passed_have hand (p ∷ params) (x ∷ xs) can =
-            let parts = both (can_use t frame x && is_value_of m p.ty x) (can_pass m t frame params xs) can in
-            (used hand x (both (can_use t frame x) (is_value_of m p.ty x) parts.0).0, passed_have hand params xs parts.1)
+            let parts = and_parts (can_use t frame x && is_value_of m p.ty x) (can_pass m t frame params xs) can in
+            (used hand x (and_parts (can_use t frame x) (is_value_of m p.ty x) parts.0).0, passed_have hand params xs parts.1)
 
         returned_used : AllByRecursion (P (scope_of t)) frame.hand → (x : Option Value) (ty : Option TypeId) → can_return m t frame ty x ≡ true →
             IsSomeOf (P (scope_of t)) x
         returned_used hand None ty can = tt
         returned_used hand (Some x) None can = absurd (cc)
-        returned_used hand (Some x) (Some ty) can = used hand x (both (can_use t frame x) (is_value_of m ty x) can).0
+        returned_used hand (Some x) (Some ty) can = used hand x (and_parts (can_use t frame x) (is_value_of m ty x) can).0
 
     -- every step brings only values that are P
     pub brought : (choice : Choice) → OnOutcome (Along Brought t) (plan m t choice)

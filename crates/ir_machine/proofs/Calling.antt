@@ -10,7 +10,8 @@ use Rattle.ir_machine.specs.declared.choice.Value.{Value}
 use Rattle.ir_machine.specs.declared.choice.Byte.TheVariants as byte
 use Rattle.ir_machine.specs.declared.choice.Choice.{Choice}
 use Rattle.ir_machine.specs.Memory.{Memory, Heap, Live, Closed, Dead, is_dead, without_allocas}
-use Rattle.ir_machine.specs.Frames.{BodyFrame, OutsideFrame, Frame, Body, Outside, State, What, Enter, Read, Write, HiddenRead, HiddenWrite, Free, Capture, Return, Unwind}
+use Rattle.ir_machine.specs.Frames.{BodyFrame, OutsideFrame, Frame, Body, Outside, State, What, Enter, Read, Write, HiddenRead, HiddenWrite, Free, Capture}
+use Rattle.ir_machine.specs.Frames.{Return, Unwind}
 use Rattle.ir_machine.specs.Moves.{Gives, Move, Says, Grows, Turns, Fills, Keeps, Sets, Goes, Takes, Begins, Ends, says}
 use Rattle.ir_machine.specs.Values.{plain}
 use Rattle.ir_machine.specs.Reading.{behind}

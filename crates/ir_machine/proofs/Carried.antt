@@ -1,9 +1,10 @@
 -- Values that a step brings come from those that were there: for every fact P of values that is closed under what the machine
 -- does with them, each value that a step brings is P.
-use Rattle.std.proofs.Common.{◌≡◌, ℕ, zero, suc, ◌+◌, ◌-◌, ◌%◌, ◌^◌, ◌==◌, ◌&&◌, ◌||◌, ◌++◌, ◌<◌, not, drop, nat_le, nat_lt, Bool, true, false, if◌then◌else◌, List, [], ◌∷◌, slice_get, map, Option, None, Some, refl, sym, ap, subst, ◌∙◌, ◌⊎◌, inl, inr}
+use Rattle.std.proofs.Common.{◌≡◌, ℕ, zero, suc, ◌+◌, ◌-◌, ◌%◌, ◌^◌, ◌==◌, ◌&&◌, ◌||◌, ◌++◌, ◌<◌, not, drop, nat_le, nat_lt, Bool, true, false, if◌then◌else◌}
+use Rattle.std.proofs.Common.{List, [], ◌∷◌, slice_get, map, Option, None, Some, refl, sym, ap, subst, ◌∙◌, inl, inr}
 use Rattle.std.specs.List.{AllByRecursion, list_any, list_all}
 use Rattle.std.specs.Option.{unwrap_or}
-use Rattle.std.proofs.lemmas.Bool.{ltb-true}
+use Rattle.std.proofs.lemmas.Bool.{ltb-true, and_parts, or_cases, eqb-true}
 use Rattle.ir_types.specs.declared.ir_type.IrType.{IrType}
 use Rattle.ir_types.specs.declared.ir_type.IrType.TheVariants as type
 use Rattle.ir_ops.specs.declared.binary.BinOp.{BinOp}
@@ -21,6 +22,7 @@ use Rattle.ir_module.specs.declared.op.Op.TheVariants as op
 use Rattle.ir_module.specs.declared.op.Symbol.{Symbol}
 use Rattle.ir_module.specs.declared.op.Written.{Written}
 use Rattle.attr_ids.specs.declared.ids.ValueId.{ValueId}
+use Rattle.shelf.proofs.Every.{every_at, every_append}
 use Rattle.ir_module.specs.Calls.{promising}
 use Rattle.ir_module.specs.declared.module.Param.{Param}
 use Rattle.ir_module.specs.declared.module.Module.{Module}
@@ -30,17 +32,21 @@ use Rattle.ir_machine.specs.declared.choice.Mark.{Mark}
 use Rattle.ir_machine.specs.declared.choice.Value.{Value}
 use Rattle.ir_machine.specs.declared.choice.Byte.{Byte}
 use Rattle.ir_machine.specs.declared.choice.Byte.TheVariants as byte
-use Rattle.ir_machine.specs.Values.{plain, carried, is_poison, is_undef, is_same_datum, are_same_marks, bytes_from, overlaid, stored_byte, stored, is_poison_byte, is_undef_byte, is_fragment, is_zero_byte, little_endian, loaded_int, are_fragments, whole_pointer, loaded_ptr}
+use Rattle.ir_machine.specs.Values.{plain, carried, is_poison, is_undef, is_same_datum, are_same_marks, bytes_from, overlaid, stored_byte, stored}
+use Rattle.ir_machine.specs.Values.{is_poison_byte, is_undef_byte, is_fragment, is_zero_byte, little_endian, loaded_int, are_fragments, whole_pointer}
+use Rattle.ir_machine.specs.Values.{loaded_ptr}
 use Rattle.ir_machine.specs.Memory.{Memory}
 use Rattle.ir_machine.specs.Frames.{OutsideFrame, State}
 use Rattle.ir_machine.specs.Moves.{Outcome, Gives}
-use Rattle.ir_machine.specs.Reading.{Values, Picked, picked, read, read_operand, pick, type_of, width_of, width_in, any_int, Displacement, exact_or_poison, led_to, displaced_from, displaced, at_home, symbol_value, or_pair, zero_of, constant_way, Here}
-use Rattle.ir_machine.specs.Compute.{is_division, answered, on_ints, unless_odd, binary, truth, compared, converted_datum, flagged_by, int_result, selected, any_pointer, any_value, frozen, Walk, walks, way_of, gep_result, computed}
+use Rattle.ir_machine.specs.Reading.{Values, Picked, picked, read, read_operand, pick, type_of, width_of, width_in, any_int, Displacement, exact_or_poison}
+use Rattle.ir_machine.specs.Reading.{led_to, displaced_from, displaced, at_home, symbol_value, or_pair, zero_of, constant_way, Here}
+use Rattle.ir_machine.specs.Compute.{is_division, answered, on_ints, unless_odd, binary, truth, compared, converted_datum, flagged_by, int_result, selected}
+use Rattle.ir_machine.specs.Compute.{any_pointer, any_value, frozen, Walk, walks, way_of, gep_result, computed}
 use Rattle.ir_machine.specs.Access.{loaded_as, Place, bytes_at, bytes_with}
 use Rattle.ir_machine.specs.Calls.{becomes_poison, is_dereferenceable, poisoned, acted_on, entered, bound, came_back, with_result}
 use Rattle.ir_machine.specs.Outside.{is_possible, is_moved, is_from, can_use}
 use Rattle.ir_machine.specs.Valid.{IsSomeOf, IsByteOf}
-use Rattle.ir_machine.proofs.Basics.{OnOutcome, on_with, on_found, on_needs, on_fits, on_if, given, put_has, same}
+use Rattle.ir_machine.proofs.Basics.{OnOutcome, on_with, on_found, on_needs, on_fits, on_if, given, put_has}
 use Rattle.ir_machine.specs.Meanings.{PointsTo}
 use Rattle.ir_machine.proofs.Instructions.{IsRead, IsNoPtr, IsBare, AreRead, on_reading}
 
@@ -70,35 +76,14 @@ pub record IsCarried (count : ℕ) (P : Value → Type 0) : Type 0 where
   pub block : (b o : ℕ) → b < count → P (plain (datum.Ptr b o))
   pub moved : (x : Value) (d : Datum) → P x → IsSameBlock x.datum d → P (carried x d)
 
--- ---- truth values
-pub both : (a b : Bool) → (a && b) ≡ true → (a ≡ true) × (b ≡ true)
-both true b e = (refl, e)
-both false b e = absurd (cc)
-
-pub either : (a b : Bool) → (a || b) ≡ true → (a ≡ true) ⊎ (b ≡ true)
-either true b e = inl refl
-either false b e = inr e
-
 -- ---- lists
-pub at_index : {A : Type 0} (P : A → Type 0) (xs : List A) (k : ℕ) (x : A) → AllByRecursion P xs → slice_get xs k ≡ Some x → P x
-at_index P [] k x all e = absurd (cc)
-at_index P (y ∷ xs) zero x all e = let is : y ≡ x = cc in subst P is all.0
-at_index P (y ∷ xs) (suc k) x all e = at_index P xs k x all.1 e
-
-pub mapped : {A : Type 0} (P R : A → Type 0) (xs : List A) → ((x : A) → P x → R x) → AllByRecursion P xs → AllByRecursion R xs
-mapped P R [] leads all = tt
-mapped P R (x ∷ xs) leads all = (leads x all.0, mapped P R xs leads all.1)
-
-pub joined : {A : Type 0} (P : A → Type 0) (xs ys : List A) → AllByRecursion P xs → AllByRecursion P ys → AllByRecursion P (xs ++ ys)
-joined P [] ys here there = there
-joined P (x ∷ xs) ys here there = (here.0, joined P xs ys here.1 there)
 
 -- an element that passes a test, where one does
 some_passes : {A : Type 0} (R : Type 0) (P : A → Type 0) (test : A → Bool) (xs : List A) → AllByRecursion P xs → ((x : A) → P x → test x ≡ true → R) →
     list_any test xs ≡ true → R
 some_passes R P test [] all leads e = absurd (cc)
 some_passes R P test (x ∷ xs) all leads e =
-    elim (either (test x) (list_any test xs) e) [
+    elim (or_cases (test x) (list_any test xs) e) [
       | inl is ↦ leads x all.0 is
       | inr later ↦ some_passes R P test xs all.1 leads later
     ]
@@ -108,10 +93,10 @@ same_marks [] [] e = refl
 same_marks [] (y ∷ ys) e = absurd (cc)
 same_marks (x ∷ xs) [] e = absurd (cc)
 same_marks (x ∷ xs) (y ∷ ys) e =
-    let first = both (x.call == y.call) (x.param == y.param && are_same_marks xs ys) (assoc e) in
-    let more = both (x.param == y.param) (are_same_marks xs ys) first.1 in
-    let call : x.call ≡ y.call = same x.call y.call first.0 in
-    let param : x.param ≡ y.param = same x.param y.param more.0 in
+    let first = and_parts (x.call == y.call) (x.param == y.param && are_same_marks xs ys) (assoc e) in
+    let more = and_parts (x.param == y.param) (are_same_marks xs ys) first.1 in
+    let call : x.call ≡ y.call = eqb-true x.call y.call first.0 in
+    let param : x.param ≡ y.param = eqb-true x.param y.param more.0 in
     let mark : x ≡ y = subst (λ c. x ≡ record { call = c; param = y.param }) call (subst (λ p. x ≡ record { call = x.call; param = p }) param refl) in
     subst (λ z. x ∷ xs ≡ z ∷ ys) mark (ap (λ zs. x ∷ zs) (same_marks xs ys more.1))
   where
@@ -404,7 +389,7 @@ module _ (count : ℕ) (P : Value → Type 0) (closed : IsCarried count P) where
     where
       one : (found_at : Option Byte) → slice_get new (at - start) ≡ found_at → IsByteOf P (unwrap_or found_at (old at))
       one None e = is
-      one (Some b) e = at_index (IsByteOf P) new (at - start) b all e
+      one (Some b) e = every_at (IsByteOf P) new (at - start) b all e
 
       by : (b : Bool) → IsByteOf P (unwrap_or (if b then slice_get new (at - start) else None) (old at))
       by true = one (slice_get new (at - start)) refl
@@ -472,7 +457,7 @@ module _ (count : ℕ) (P : Value → Type 0) (closed : IsCarried count P) where
   -- ---- the outside
 
   moved_same : (d e : Datum) → is_moved d e ≡ true → IsSameBlock d e
-  moved_same (datum.Ptr a at) (datum.Ptr b there) is = same a b is
+  moved_same (datum.Ptr a at) (datum.Ptr b there) is = eqb-true a b is
   moved_same (datum.Ptr a at) datum.Null is = tt
   moved_same (datum.Ptr a at) datum.Undef is = tt
   moved_same (datum.Ptr a at) datum.Poison is = tt
@@ -527,7 +512,7 @@ module _ (count : ℕ) (P : Value → Type 0) (closed : IsCarried count P) where
   -- a value without origins, to a block that exists
   possible_has : (mem : Memory) → mem.count ≡ count → (d : Datum) → is_possible mem d ≡ true → P (plain d)
   possible_has mem is (datum.Ptr b o) possible =
-      closed.block b o (subst (λ n. b < n) is (ltb-true b mem.count (both (nat_lt b mem.count) (nat_lt o (2 ^ 64)) possible).0))
+      closed.block b o (subst (λ n. b < n) is (ltb-true b mem.count (and_parts (nat_lt b mem.count) (nat_lt o (2 ^ 64)) possible).0))
   possible_has mem is datum.Null possible = no_ptr_has datum.Null tt
   possible_has mem is datum.Undef possible = no_ptr_has datum.Undef tt
   possible_has mem is datum.Poison possible = no_ptr_has datum.Poison tt
@@ -538,14 +523,14 @@ module _ (count : ℕ) (P : Value → Type 0) (closed : IsCarried count P) where
   pub used_has : (t : State) (frame : OutsideFrame) → t.memory.count ≡ count → AllByRecursion P frame.hand → AllByRecursion P t.kept → (x : Value) →
       can_use t frame x ≡ true → P x
   used_has t frame is hand kept x can =
-      let parts = both (is_possible t.memory x.datum) (are_same_marks x.origins [] || list_any (is_from x) (frame.hand ++ t.kept)) can in
-      elim (either (are_same_marks x.origins []) (list_any (is_from x) (frame.hand ++ t.kept)) parts.1) [
+      let parts = and_parts (is_possible t.memory x.datum) (are_same_marks x.origins [] || list_any (is_from x) (frame.hand ++ t.kept)) can in
+      elim (or_cases (are_same_marks x.origins []) (list_any (is_from x) (frame.hand ++ t.kept)) parts.1) [
         | inl none ↦ subst (λ o. P (record { datum = x.datum; origins = o })) (sym (same_marks x.origins [] none)) (possible_has t.memory is x.datum parts.0)
-        | inr some ↦ some_passes (P x) P (is_from x) (frame.hand ++ t.kept) (joined P frame.hand t.kept hand kept) from_one some
+        | inr some ↦ some_passes (P x) P (is_from x) (frame.hand ++ t.kept) (every_append P frame.hand t.kept hand kept) from_one some
       ]
     where
       from_one : (y : Value) → P y → is_from x y ≡ true → P x
       from_one y has from =
-          let tests = both (is_moved y.datum x.datum) (are_same_marks y.origins x.origins) from in
+          let tests = and_parts (is_moved y.datum x.datum) (are_same_marks y.origins x.origins) from in
           subst (λ o. P (record { datum = x.datum; origins = o })) (same_marks y.origins x.origins tests.1) (closed.moved y x.datum has
           (moved_same y.datum x.datum tests.0))

@@ -1,6 +1,8 @@
 -- Steps by what they do, so that a law has a case for each kind of instruction and of act, and not one for each of them.
-use Rattle.std.proofs.Common.{◌≡◌, ℕ, ◌*◌, ◌%◌, ◌^◌, ◌==◌, ◌&&◌, not, drop, nat_le, Bool, true, false, if◌then◌else◌, List, [], ◌∷◌, map, length, Option, None, Some, refl, sym, subst}
+use Rattle.std.proofs.Common.{◌≡◌, ℕ, ◌*◌, ◌%◌, ◌^◌, ◌==◌, ◌&&◌, not, drop, nat_le, Bool, true, false, if◌then◌else◌, List, [], ◌∷◌, map, length, Option, None}
+use Rattle.std.proofs.Common.{Some, refl, sym, subst}
 use Rattle.std.specs.List.{list_all}
+use Rattle.std.proofs.lemmas.Bool.{and_parts}
 use Rattle.attr_ids.specs.declared.ids.TypeId.{TypeId}
 use Rattle.attr_ids.specs.declared.ids.BlockId.{BlockId}
 use Rattle.attr_ids.specs.declared.ids.ValueId.{ValueId}
@@ -26,14 +28,18 @@ use Rattle.ir_machine.specs.declared.choice.Act.TheVariants as act
 use Rattle.ir_machine.specs.declared.choice.Choice.{Choice}
 use Rattle.ir_machine.specs.Values.{plain}
 use Rattle.ir_machine.specs.Memory.{Heap, Dead, without_allocas}
-use Rattle.ir_machine.specs.Frames.{Entered, At, BodyFrame, OutsideFrame, Frame, Body, Outside, State, Enter, Read, Write, HiddenRead, HiddenWrite, Free, Capture, Return, Unwind}
+use Rattle.ir_machine.specs.Frames.{Entered, At, BodyFrame, OutsideFrame, Frame, Body, Outside, State, Enter, Read, Write, HiddenRead, HiddenWrite, Free}
+use Rattle.ir_machine.specs.Frames.{Capture, Return, Unwind}
 use Rattle.ir_machine.specs.Moves.{Move, Says, Grows, Turns, Fills, Keeps, Sets, Goes, Begins, Ends, says, Outcome, Gives, Undefined, Over, Plan, with, does}
 use Rattle.ir_machine.specs.Reading.{size_of, align_or, type_of, width_of, is_pointer, pick, read, Here, reading, AllPicked, read_all, behind, results}
 use Rattle.ir_machine.specs.Compute.{computed, computes, flagged_by, any_truth, compares, does_icmp, does_cast}
-use Rattle.ir_machine.specs.Access.{can_lie, base_by, alloca_shape, allocates, allocates_at, counting, count_of, Place, accessed, hidden, loaded_as, bytes_at, loads, bytes_with, stores}
+use Rattle.ir_machine.specs.Access.{can_lie, base_by, alloca_shape, allocates, allocates_at, counting, count_of, Place, accessed, hidden, loaded_as, bytes_at}
+use Rattle.ir_machine.specs.Access.{loads, bytes_with, stores}
 use Rattle.ir_machine.specs.Edges.{crosses, crossing, branches, condition, branches_on, case_target, case_values, switches}
-use Rattle.ir_machine.specs.Calls.{Passing, passed_to, params_of, entered, begun_by, body_frame, enters, runs, is_call_of_null, goes_on, comes_back, returns, goes_through, is_end_name, marks_last, marks, calls, calls_or_marks, does_call, does_ret}
-use Rattle.ir_machine.specs.Outside.{can_use, can_touch, block_in, pointers_in, taking, reads_at, can_write, captures_in, written_at, can_free, can_pass, types_of, goes_in, return_type, can_return, comes_out, acts}
+use Rattle.ir_machine.specs.Calls.{Passing, passed_to, params_of, entered, begun_by, body_frame, enters, runs, is_call_of_null, goes_on, comes_back, returns}
+use Rattle.ir_machine.specs.Calls.{goes_through, is_end_name, marks_last, marks, calls, calls_or_marks, does_call, does_ret}
+use Rattle.ir_machine.specs.Outside.{can_use, can_touch, block_in, pointers_in, taking, reads_at, can_write, captures_in, written_at, can_free, can_pass}
+use Rattle.ir_machine.specs.Outside.{types_of, goes_in, return_type, can_return, comes_out, acts}
 use Rattle.ir_machine.specs.Steps.{performs, body_plan, outside_plan, unless_acted, plan_on, plan}
 use Rattle.ir_machine.proofs.Basics.{OnOutcome, on_with, on_found, on_needs, on_fits, on_if, given}
 
@@ -68,10 +74,6 @@ all_read m here (w ∷ ws) picks =
     (λ x rest is. on_with (λ (all : AllPicked). AreRead m here (w ∷ ws) all.values) (read_all m here ws rest)
     (λ others. Gives (record { values = x ∷ others.values; picks = others.picks }))
     (λ others are. (is, given (λ (all : AllPicked). AreRead m here ws all.values) (read_all m here ws rest) others (all_read m here ws rest) are)))
-
-both_true : (a b : Bool) → (a && b) ≡ true → (a ≡ true) × (b ≡ true)
-both_true true b e = (refl, e)
-both_true false b e = absurd (cc)
 
 -- ---- where a branch leads
 
@@ -343,8 +345,8 @@ module _ (m : Module) (t : State) (frame : OutsideFrame) (below : List Frame) (Q
   on_enter each f xs =
       on_fits Q (is_open m f && can_pass m t frame (params_of m f) xs) (enters m t (passing_in m f xs) f) (λ both.
       on_with Q (entered t.memory (params_of m f) (passed_to m t (passing_in m f xs))) _ (λ args enters.
-      each.entering f xs args (both_true (is_open m f) (can_pass m t frame (params_of m f) xs) both).0
-      (both_true (is_open m f) (can_pass m t frame (params_of m f) xs) both).1 enters))
+      each.entering f xs args (and_parts (is_open m f) (can_pass m t frame (params_of m f) xs) both).0
+      (and_parts (is_open m f) (can_pass m t frame (params_of m f) xs) both).1 enters))
 
   on_return : EachAct → (x : Option Value) (picks : List ℕ) → OnOutcome Q (comes_out m t frame below x picks)
   on_return each x picks =

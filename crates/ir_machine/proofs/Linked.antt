@@ -1,8 +1,10 @@
 -- The frames of every run are linked: a condition for each move, and each step meets it.
-use Rattle.std.proofs.Common.{◌≡◌, ℕ, drop, ◌==◌, Bool, true, false, if◌then◌else◌, List, [], ◌∷◌, slice_get, map, Option, None, Some, is_some, refl, sym, ap, subst, ◌∙◌, inl, inr, zero, suc}
+use Rattle.std.proofs.Common.{◌≡◌, ℕ, drop, ◌==◌, Bool, true, false, if◌then◌else◌, List, [], ◌∷◌, slice_get, map, Option, None, Some, is_some, refl, sym, ap}
+use Rattle.std.proofs.Common.{subst, ◌∙◌, inl, inr, zero, suc}
 use Rattle.std.specs.List.{AllByRecursion}
 use Rattle.attr_ids.specs.declared.ids.BlockId.{BlockId}
 use Rattle.attr_ids.specs.declared.ids.ValueId.{ValueId}
+use Rattle.shelf.proofs.Every.{every_always}
 use Rattle.ir_module.specs.declared.op.Call.{Call}
 use Rattle.ir_module.specs.declared.op.Case.{Case}
 use Rattle.ir_module.specs.declared.op.Op.{Op}
@@ -24,17 +26,19 @@ use Rattle.ir_machine.specs.declared.choice.Byte.TheVariants as byte
 use Rattle.ir_machine.specs.declared.choice.Choice.{Choice}
 use Rattle.ir_machine.specs.Memory.{Memory, Live, Closed, is_dead, without_allocas}
 use Rattle.ir_machine.specs.Frames.{BodyFrame, OutsideFrame, Frame, Body, Outside, State, What, Event, active, Enter, Read, Write, Capture, Return, Unwind}
-use Rattle.ir_machine.specs.Moves.{Move, Says, Grows, Turns, Fills, Keeps, Sets, Goes, Takes, Begins, Ends, moved, says, with_value, set_on_top, gone_on_top, taken_on_top, under_top}
+use Rattle.ir_machine.specs.Moves.{Move, Says, Grows, Turns, Fills, Keeps, Sets, Goes, Takes, Begins, Ends, moved, says, with_value, set_on_top, gone_on_top}
+use Rattle.ir_machine.specs.Moves.{taken_on_top, under_top}
 use Rattle.ir_machine.specs.Reading.{pick, Here, behind}
 use Rattle.ir_machine.specs.Values.{plain}
 use Rattle.ir_machine.specs.Access.{alloca_shape, hidden, bytes_with}
 use Rattle.ir_machine.specs.Edges.{is_int_of, case_target, crossing, Crossing, behind_phis, phi_count, first_instrs}
-use Rattle.ir_machine.specs.Calls.{is_end_name, marks_last, turns, is_alloca_result, Lands, Passes, lands_or, landing_by, landing_in, takes, with_result, body_frame}
+use Rattle.ir_machine.specs.Calls.{is_end_name, marks_last, turns, is_alloca_result, Lands, Passes, lands_or, landing_by, landing_in, takes, with_result}
+use Rattle.ir_machine.specs.Calls.{body_frame}
 use Rattle.ir_machine.specs.Outside.{pointers_in, reads_at, taking, captures_in}
 use Rattle.ir_machine.specs.Steps.{plan}
 use Rattle.ir_machine.specs.Runs.{IsOpening, run}
 use Rattle.ir_machine.specs.Links.{CallsBodyIn, RunsItsCallee, AreLinked, IsLinked}
-use Rattle.ir_machine.proofs.Basics.{OnOutcome, Along, along_says, Law, Shown, run_law, outcome_mapped, always}
+use Rattle.ir_machine.proofs.Basics.{OnOutcome, Along, along_says, Law, Shown, run_law, outcome_mapped}
 use Rattle.ir_machine.proofs.Instructions.{Leads, EachKind, EachAct, by_step, here_in, passing_at, passing_in}
 use Rattle.ir_machine.proofs.Moving.{IsCrossing, crossed, IsOnward, SetsFirst, IsGoingOn, went_on, IsComing, came, IsThrough, went_through}
 use Rattle.ir_machine.proofs.Linking.{body_begins, open_has_blocks, inner_has_blocks, edge_leads_in, behind_in}
@@ -159,11 +163,7 @@ module _ (m : Module) (formed : IsWellFormed m) where
   -- ---- steps
 
   whats_link : (u : State) (whats : List What) (moves : List Move) → Along Links u moves → Along Links u (says whats moves)
-  whats_link u whats moves rest = along_says Links u whats moves (silent whats) rest
-    where
-      silent : (whats : List What) → AllByRecursion (λ what. Unit {0}) whats
-      silent [] = tt
-      silent (what ∷ whats) = (tt, silent whats)
+  whats_link u whats moves rest = along_says Links u whats moves (every_always (λ what. Unit {0}) whats (λ what. tt)) rest
 
   none_link : (u : State) (moves : List Move) → moves ≡ [] → Along Links u moves
   none_link u moves is = subst (Along Links u) (sym is) tt
@@ -421,4 +421,4 @@ module _ (m : Module) (formed : IsWellFormed m) where
       run_law m Linked (λ d. Unit {0}) Links RunTheirCallees link_law
       (λ t choice h. outcome_mapped (Along Links t) (λ moves. Unit {0} → Along Links t moves) (plan m t choice) (λ moves along _. along)
       (links_step t h choice))
-      choices t (opening_linked t is) (always (λ d. Unit {0}) (run m t choices) (λ d. tt))
+      choices t (opening_linked t is) (every_always (λ d. Unit {0}) (run m t choices) (λ d. tt))

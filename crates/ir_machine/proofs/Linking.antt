@@ -1,7 +1,10 @@
 -- The frames of every run are linked: each was made by the frame below it, at the place where that one stands.
-use Rattle.std.proofs.Common.{◌≡◌, ℕ, zero, suc, ◌+◌, ◌<◌, ◌≤◌, ◌==◌, ◌||◌, not, Bool, true, false, slice_get, length, Option, None, Some, refl, sym, subst, ◌∙◌, arith}
+use Rattle.std.proofs.Common.{◌≡◌, ℕ, ◌+◌, ◌<◌, ◌≤◌, ◌==◌, ◌||◌, not, Bool, true, false, slice_get, length, Option, None, Some, refl, sym, subst, ◌∙◌, arith}
 use Rattle.std.specs.Option.{option_and_then}
+use Rattle.std.proofs.lemmas.Bool.{and_parts}
+use Rattle.std.proofs.lemmas.Option.{same_Some}
 use Rattle.attr_ids.specs.declared.ids.FuncId.{FuncId}
+use Rattle.shelf.proofs.Shelf.{positive}
 use Rattle.ir_module.specs.declared.op.Call.{Call}
 use Rattle.ir_module.specs.declared.op.Op.{Op}
 use Rattle.ir_module.specs.declared.op.Op.TheVariants as op
@@ -14,10 +17,10 @@ use Rattle.ir_module.specs.declared.module.Spot.{Spot}
 use Rattle.ir_module.specs.declared.module.Module.{Module}
 use Rattle.ir_module.specs.Places.{spot, in_seg, instr_at, IsIn, start_of, entry_of, behind_call, first_seg_of, first_seg_in, first_block_in}
 use Rattle.ir_module.specs.Edges.{edges}
-use Rattle.ir_module.specs.Calls.{is_call, callee_in, inner_callee, direct_callee, is_exact_in, is_replaceable, is_open, is_open_in, is_taken, is_visible, has_blocks}
+use Rattle.ir_module.specs.Calls.{is_call, callee_in, inner_callee, direct_callee, is_exact_in, is_replaceable, is_open, is_open_in, is_taken, is_visible}
+use Rattle.ir_module.specs.Calls.{has_blocks}
 use Rattle.ir_module.specs.Formed.{IsBlockIn, Ends as EndsSeg, IsPlaced as IsPlacedOp}
 use Rattle.ir_module.specs.WellFormed.{IsWellFormed, IsInstrFormed}
-use Rattle.ir_machine.proofs.Carried.{both}
 
 -- ---- where blocks begin
 
@@ -34,15 +37,11 @@ starts_in m f i at formed (b, at_b, of) =
     let seg = block.segs b.first_seg (omega arith, omega (arith, some)) in
     subst (λ found. IsIn m f (spot (first_seg_in found) at)) (sym at_b) (spot_in m f b.first_seg i at seg.0 b seg.1 seg.2 at_b of)
 
-positive_count : (n : ℕ) → not (n == 0) ≡ true → 0 < n
-positive_count zero h = absurd (cc)
-positive_count (suc n) h = omega arith
-
 begins_in : (m : Module) (f : ℕ) (found : Option Func) → IsWellFormed m → slice_get m.funcs f ≡ found → has_blocks found ≡ true →
     IsIn m f (start_of m (first_block_in found))
 begins_in m f None formed is body = absurd (cc)
 begins_in m f (Some func) formed is body =
-    let some : 0 < func.block_count = positive_count func.block_count body in
+    let some : 0 < func.block_count = positive func.block_count body in
     starts_in m f func.first_block 0 formed ((formed.funcs f func is).blocks func.first_block (omega arith, omega (arith, some)))
 
 -- a body begins in its function
@@ -56,11 +55,11 @@ open_has_blocks m f h = by (slice_get m.funcs f) h
   where
     by : (found : Option Func) → is_open_in (is_taken m f) found ≡ true → has_blocks found ≡ true
     by None e = e
-    by (Some func) e = (both (not (func.block_count == 0)) (is_visible func.linkage || is_taken m f) e).0
+    by (Some func) e = (and_parts (not (func.block_count == 0)) (is_visible func.linkage || is_taken m f) e).0
 
 exact_has_blocks : (found : Option Func) → is_exact_in found ≡ true → has_blocks found ≡ true
 exact_has_blocks None e = e
-exact_has_blocks (Some func) e = (both (not (func.block_count == 0)) (not (is_replaceable func.linkage)) e).0
+exact_has_blocks (Some func) e = (and_parts (not (func.block_count == 0)) (not (is_replaceable func.linkage)) e).0
 
 -- what an inner call runs is an exact body
 inner_by : (m : Module) (f : ℕ) (named : Option FuncId) → callee_in (is_exact_in (option_and_then (λ g. slice_get m.funcs g.0) named)) named ≡ Some f →
@@ -90,7 +89,7 @@ pub formed_at : (m : Module) (f : ℕ) (s : Spot) (instr : Instr) → IsWellForm
 unfolding instr_at
 formed_at m f s instr formed is at =
     let in_block = formed.segs s.seg.0 is.seg is.at_seg in
-    let same_block : in_block.0 ≡ is.block = some_is (sym in_block.1 ∙ is.at_block) in
+    let same_block : in_block.0 ≡ is.block = same_Some _ _ (sym in_block.1 ∙ is.at_block) in
     record {
       seg = is.seg;
       block = in_block.0;
@@ -99,9 +98,6 @@ formed_at m f s instr formed is at =
       of = subst (λ b. b.func.0 ≡ f) (sym same_block) is.in_func;
       formed = in_block.2.instrs s.at instr (subst (λ found. in_seg s.at found ≡ Some instr) is.at_seg at);
     }
-  where
-    some_is : {a b : Block} → Some a ≡ Some b → a ≡ b
-    some_is e = cc
 
 -- an edge leads to a block of the same function
 pub edge_leads_in : (m : Module) (f : ℕ) (s : Spot) (instr : Instr) (k at : ℕ) (e : Edge) → IsWellFormed m → IsIn m f s → instr_at m s ≡ Some instr →
@@ -120,11 +116,8 @@ behind_in m f s instr call formed is at_s is_call =
     subst (λ o. IsPlacedOp place.block s.seg.0 (length place.seg.instrs) s.at o) is_call place.formed.placed in
     let block = formed.blocks place.seg.block.0 place.block place.at_block in
     let own = formed.segs s.seg.0 place.seg place.at_seg in
-    let same_block : own.0 ≡ place.block = some_is (sym own.1 ∙ place.at_block) in
+    let same_block : own.0 ≡ place.block = same_Some _ _ (sym own.1 ∙ place.at_block) in
     let low : place.block.first_seg ≤ s.seg.0 = subst (λ b. b.first_seg ≤ s.seg.0) same_block own.2.place.0 in
     let more : s.seg.0 + 1 < place.block.first_seg + place.block.seg_count = ends.1 in
     let next = block.segs (s.seg.0 + 1) (omega (arith, low), more) in
     spot_in m f (s.seg.0 + 1) place.seg.block.0 0 next.0 place.block next.1 next.2 place.at_block place.of
-  where
-    some_is : {a b : Block} → Some a ≡ Some b → a ≡ b
-    some_is e = cc

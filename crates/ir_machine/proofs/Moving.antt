@@ -16,7 +16,8 @@ use Rattle.ir_machine.specs.Frames.{BodyFrame, Frame, Body, Outside, State, Unwi
 use Rattle.ir_machine.specs.Moves.{Move, Says, Grows, Turns, Fills, Keeps, Sets, Goes, Takes, Begins, Ends, moved, Outcome, Gives, Undefined, Over, with}
 use Rattle.ir_machine.specs.Reading.{Values, read}
 use Rattle.ir_machine.specs.Edges.{Crossing, first_instrs, behind_phis, arm_from, phi_or_end, phi_moves, crosses, crossing}
-use Rattle.ir_machine.specs.Calls.{set_result, with_result, onward, goes_on, came_back, takes, comes_back, Landing, Lands, Passes, landing_in, at_landing, goes_through}
+use Rattle.ir_machine.specs.Calls.{set_result, with_result, onward, goes_on, came_back, takes, comes_back, Landing, Lands, Passes, landing_in, at_landing}
+use Rattle.ir_machine.specs.Calls.{goes_through}
 use Rattle.ir_machine.specs.Outside.{taking}
 use Rattle.ir_machine.proofs.Basics.{OnOutcome, on_with, on_found, given, Along}
 

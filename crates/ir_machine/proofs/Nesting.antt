@@ -1,19 +1,21 @@
 -- Extents nest: while a call stands, the calls below it stay, since a call that begins has a new number.
 use Rattle.std.proofs.Common.{◌≡◌, ℕ, ◌<◌, ◌++◌, List, [], ◌∷◌, map, refl, sym, ap, subst, ◌∙◌, arith}
 use Rattle.std.specs.List.{AllByRecursion}
+use Rattle.shelf.proofs.Every.{every_mapped, every_always}
 use Rattle.ir_module.specs.declared.module.Spot.{Spot}
 use Rattle.ir_module.specs.declared.module.Module.{Module}
 use Rattle.ir_machine.specs.declared.choice.Value.{Value}
 use Rattle.ir_machine.specs.declared.choice.Choice.{Choice}
 use Rattle.ir_machine.specs.Frames.{Frame, Body, Outside, State, What, Active, active, call_of, Event, event}
-use Rattle.ir_machine.specs.Moves.{Move, Says, Grows, Turns, Fills, Keeps, Sets, Goes, Takes, Begins, Ends, moved, after, said, set_on_top, gone_on_top, taken_on_top, under_top, Gives, Undefined, Over, Plan}
+use Rattle.ir_machine.specs.Moves.{Move, Says, Grows, Turns, Fills, Keeps, Sets, Goes, Takes, Begins, Ends, moved, after, said, set_on_top, gone_on_top}
+use Rattle.ir_machine.specs.Moves.{taken_on_top, under_top, Gives, Undefined, Over, Plan}
 use Rattle.ir_machine.specs.Steps.{plan}
 use Rattle.ir_machine.specs.Runs.{done_by, run, events_of}
 use Rattle.ir_machine.specs.Valid.{AreOrdered, IsValid}
 use Rattle.ir_machine.specs.Stays.{StandBelow, HaveSameBelow, ExtentsNest}
-use Rattle.ir_machine.proofs.Basics.{OnOutcome, Along, Law, Shown, kept_after, shown_said, run_law, outcome_mapped, always, mapped_steps, of_events}
+use Rattle.ir_machine.proofs.Basics.{OnOutcome, Along, Law, Shown, kept_after, shown_said, run_law, outcome_mapped, of_events}
 use Rattle.ir_machine.proofs.Valid.{Fits, valid_moved}
-use Rattle.ir_machine.proofs.Running.{fits_step}
+use Rattle.ir_machine.proofs.Running.{fits_step, valid_after}
 
 -- ---- a call stands once
 first_of : (a b : Active) (xs ys : List Active) → a ∷ xs ≡ b ∷ ys → a ≡ b
@@ -114,12 +116,12 @@ module _ (a : Active) (below : List Active) where
 
   below_run : (m : Module) (choices : List Choice) (t : State) → IsValid t × Below t → AllByRecursion KeepsBelow (events_of (run m t choices))
   below_run m choices t both =
-      of_events KeepsBelow (run m t choices) (mapped_steps (Shown (λ t. IsValid t × Below t) KeepsBelow) (λ d. AllByRecursion KeepsBelow d.events)
+      of_events KeepsBelow (run m t choices) (every_mapped (Shown (λ t. IsValid t × Below t) KeepsBelow) (λ d. AllByRecursion KeepsBelow d.events)
       (run m t choices)
       (λ d shown. shown.events) (run_law m (λ t. IsValid t × Below t) (λ d. Unit {0}) Fits KeepsBelow below_law
       (λ t choice both. outcome_mapped (Along Fits t) (λ moves. Unit {0} → Along Fits t moves) (plan m t choice) (λ moves along _. along)
       (fits_step m t both.0 choice))
-      choices t both (always (λ d. Unit {0}) (run m t choices) (λ d. tt))))
+      choices t both (every_always (λ d. Unit {0}) (run m t choices) (λ d. tt))))
 
 -- what stands below a call in an event stands below it in the state of that moment
 stands_now : (t : State) → IsValid t → (what : What) (a : Active) (below : List Active) → StandBelow a below (event t.stack what).calls → Below a below t
@@ -171,10 +173,6 @@ nest_said t (Begins f ∷ moves) later valid fits stays nest = nest_said (moved 
 nest_said t (Ends ∷ moves) later valid fits stays nest = nest_said (moved t Ends) moves later (valid_moved t Ends valid fits.0) fits.1 stays nest
 
 module _ (m : Module) where
-  valid_after : (t : State) (moves : List Move) → IsValid t → Along Fits t moves → IsValid (after t moves)
-  valid_after t [] valid along = valid
-  valid_after t (x ∷ moves) valid along = valid_after (moved t x) moves (valid_moved t x valid along.0) along.1
-
   nest_step : (t : State) (choices : List Choice) (o : Plan) → IsValid t → OnOutcome (Along Fits t) o →
       ((next : State) → IsValid next → ExtentsNest (events_of (run m next choices))) → ExtentsNest (events_of (done_by t o (λ next. run m next choices)))
   nest_step t choices (Gives moves) valid fits rest =

@@ -1,6 +1,8 @@
 -- Every state of every run is valid, and the induction along which laws carry it.
 use Rattle.std.proofs.Common.{◌≡◌, ℕ, ◌<◌, Bool, true, false, if◌then◌else◌, List, [], ◌∷◌, None, Some, refl, subst}
 use Rattle.std.specs.List.{AllByRecursion}
+use Rattle.std.proofs.lemmas.Bool.{and_parts}
+use Rattle.shelf.proofs.Every.{every_always}
 use Rattle.ir_module.specs.declared.op.Instr.{Instr}
 use Rattle.ir_module.specs.declared.op.Symbol.{Symbol}
 use Rattle.ir_module.specs.declared.op.Written.{Written}
@@ -20,10 +22,9 @@ use Rattle.ir_machine.specs.Outside.{pointers_in, reads_at, captures_in}
 use Rattle.ir_machine.specs.Steps.{plan}
 use Rattle.ir_machine.specs.Runs.{Done, done, run}
 use Rattle.ir_machine.specs.Valid.{IsValid, AreOrdered, IsLater}
-use Rattle.ir_machine.proofs.Basics.{OnOutcome, Along, along_says, along_both, outcome_both, outcome_mapped, Shown, run_shows, run_law, always}
+use Rattle.ir_machine.proofs.Basics.{OnOutcome, Along, along_says, along_both, outcome_both, outcome_mapped, Shown, run_shows, run_law}
 use Rattle.ir_machine.proofs.Instructions.{EachKind, EachAct, by_step, here_in}
 use Rattle.ir_machine.proofs.Moving.{crossed, came, went_on, went_through, along_all, crossing_all, coming_all, going_all, through_all, taking_all}
-use Rattle.ir_machine.proofs.Carried.{both}
 use Rattle.ir_machine.proofs.Brought.{Brought, brought}
 use Rattle.ir_machine.proofs.Valid.{known_closed, Restricts, Fits, valid_moved, later_after}
 use Rattle.ir_machine.specs.Valid.{Known}
@@ -57,11 +58,7 @@ free_along : (t : State) (moves : List Move) → AllByRecursion IsFree moves →
 free_along t moves all = along_all Restricts IsFree free_fits t moves all
 
 along_whats : (u : State) (whats : List What) (moves : List Move) → Along Restricts u moves → Along Restricts u (says whats moves)
-along_whats u whats moves rest = along_says Restricts u whats moves (silent whats) rest
-  where
-    silent : (whats : List What) → AllByRecursion (λ what. Unit {0}) whats
-    silent [] = tt
-    silent (what ∷ whats) = (tt, silent whats)
+along_whats u whats moves rest = along_says Restricts u whats moves (every_always (λ what. Unit {0}) whats (λ what. tt)) rest
 
 not_live_dead : (life' : Life) → is_live life' ≡ true → is_dead life' ≡ false
 not_live_dead Live e = refl
@@ -98,7 +95,7 @@ module _ (m : Module) (t : State) (valid : IsValid t) where
   along_marks is_end (w ∷ v ∷ ws) (x ∷ xs) moves free = along_marks is_end (v ∷ ws) xs moves free
 
   room_of : (align base size : ℕ) → can_lie t.memory align base size ≡ true → has_room t.memory base size ≡ true
-  room_of align base size can = (both _ (has_room t.memory base size) can).1
+  room_of align base size can = (and_parts _ (has_room t.memory base size) can).1
 
   body_fits : (frame : BodyFrame) (below : List Frame) (instr : Instr) → t.stack ≡ Body frame ∷ below →
       EachKind m (here_in t frame below instr) (Along Restricts t)
@@ -147,7 +144,7 @@ module _ (m : Module) (t : State) (valid : IsValid t) where
     hidden_reading = (tt, tt);
     hidden_writing = (tt, tt);
     making = λ base size can. ((room_of 1 base size can, tt), tt);
-    freeing = λ block can. (tt, (not_live_dead (t.memory.life block) (both _ (is_live (t.memory.life block)) can).1, tt));
+    freeing = λ block can. (tt, (not_live_dead (t.memory.life block) (and_parts _ (is_live (t.memory.life block)) can).1, tt));
     keeping = λ x can. (tt, (tt, tt));
     entering = λ f xs args open' passes enters. ((refl, refl), (tt, tt));
     returning = λ x picks moves can back. (
@@ -188,17 +185,18 @@ pub record IsValidStep (d : Done) : Type 0 where
   pub next : IsValid d.next
   pub later : IsLater d.before.memory d.next.memory
 
+-- moves that fit keep a state valid
+pub valid_after : (t : State) (moves : List Move) → IsValid t → Along Fits t moves → IsValid (after t moves)
+valid_after t [] valid along = valid
+valid_after t (x ∷ moves) valid along = valid_after (moved t x) moves (valid_moved t x valid along.0) along.1
+
 pub all_valid : (m : Module) (t : State) → IsValid t → (choices : List Choice) → AllByRecursion IsValidStep (run m t choices)
 all_valid m t valid choices =
     run_shows m IsValid (λ d. Unit {0}) Fits valid_moved
     (λ t choice valid. outcome_mapped (Along Fits t) (λ moves. Unit {0} → Along Fits t moves) (plan m t choice) (λ moves along _. along)
     (fits_step m t valid choice))
     IsValidStep (λ t moves valid along. record { before = valid; next = valid_after t moves valid along; later = later_after t moves along })
-    choices t valid (always (λ d. Unit {0}) (run m t choices) (λ d. tt))
-  where
-    valid_after : (t : State) (moves : List Move) → IsValid t → Along Fits t moves → IsValid (after t moves)
-    valid_after t [] valid along = valid
-    valid_after t (x ∷ moves) valid along = valid_after (moved t x) moves (valid_moved t x valid along.0) along.1
+    choices t valid (every_always (λ d. Unit {0}) (run m t choices) (λ d. tt))
 
 -- A law over valid states: each move keeps its invariant where C holds of it, and C says something of each thing that happens.
 pub record ValidLaw (Inv : State → Type 0) (C : State → Move → Type 0) (E : Event → Type 0) : Type 0 where

@@ -6,7 +6,8 @@ use Rattle.ir_module.specs.declared.module.Module.{Module}
 use Rattle.ir_machine.specs.declared.choice.Value.{Value}
 use Rattle.ir_machine.specs.declared.choice.Choice.{Choice}
 use Rattle.ir_machine.specs.Frames.{Frame, Body, Outside, State}
-use Rattle.ir_machine.specs.Moves.{Move, Says, Grows, Turns, Fills, Keeps, Sets, Goes, Takes, Begins, Ends, moved, after, set_on_top, gone_on_top, taken_on_top, under_top}
+use Rattle.ir_machine.specs.Moves.{Move, Says, Grows, Turns, Fills, Keeps, Sets, Goes, Takes, Begins, Ends, moved, after, set_on_top, gone_on_top, taken_on_top}
+use Rattle.ir_machine.specs.Moves.{under_top}
 use Rattle.ir_machine.specs.Steps.{plan}
 use Rattle.ir_machine.specs.Runs.{run}
 use Rattle.ir_machine.specs.Stays.{IsRestOf, FramesStay}

@@ -1,19 +1,24 @@
 -- Every state of a run is valid: each move keeps it.
-use Rattle.std.proofs.Common.{◌≡◌, ◌≢◌, ℕ, zero, suc, ◌+◌, ◌^◌, ◌==◌, ◌&&◌, ◌||◌, ◌<◌, ◌≤◌, not, nat_lt, Bool, true, false, if◌then◌else◌, List, [], ◌∷◌, refl, sym, ap, subst, ◌∙◌, arith}
+use Rattle.std.proofs.Common.{◌≡◌, ◌≢◌, ℕ, zero, suc, ◌+◌, ◌^◌, ◌==◌, ◌&&◌, ◌||◌, ◌<◌, ◌≤◌, not, nat_lt, Bool, true, false, if◌then◌else◌, List, [], ◌∷◌, refl}
+use Rattle.std.proofs.Common.{sym, ap, subst, ◌∙◌, arith, true≢false}
 use Rattle.std.specs.List.{AllByRecursion}
-use Rattle.std.proofs.lemmas.Bool.{ltb-true}
+use Rattle.std.proofs.lemmas.Bool.{ltb-true, and_parts, eqb-true}
+use Rattle.shelf.proofs.Shelf.{positive}
+use Rattle.shelf.proofs.Every.{every_mapped, every_append}
 use Rattle.ir_module.specs.declared.module.Spot.{Spot}
 use Rattle.ir_machine.specs.declared.choice.Datum.{Datum}
 use Rattle.ir_machine.specs.declared.choice.Datum.TheVariants as datum
 use Rattle.ir_machine.specs.declared.choice.Mark.{Mark}
 use Rattle.ir_machine.specs.declared.choice.Value.{Value}
-use Rattle.ir_machine.specs.Memory.{Kind, OfSymbol, OfAlloca, Heap, Shape, Life, Live, Closed, Dead, Memory, is_dead, put, grown, turned, has_room, all_below, leaves_free, are_apart}
+use Rattle.ir_machine.specs.Memory.{Kind, OfSymbol, OfAlloca, Heap, Shape, Life, Live, Closed, Dead, Memory, is_dead, put, grown, turned, has_room, all_below}
+use Rattle.ir_machine.specs.Memory.{leaves_free, are_apart}
 use Rattle.ir_machine.specs.Frames.{Frame, Body, Outside, State, call_of}
-use Rattle.ir_machine.specs.Moves.{Move, Says, Grows, Turns, Fills, Keeps, Sets, Goes, Takes, Begins, Ends, moved, after, set_on_top, gone_on_top, taken_on_top, under_top, is_alloca_on, without_top}
+use Rattle.ir_machine.specs.Moves.{Move, Says, Grows, Turns, Fills, Keeps, Sets, Goes, Takes, Begins, Ends, moved, after, set_on_top, gone_on_top, taken_on_top}
+use Rattle.ir_machine.specs.Moves.{under_top, is_alloca_on, without_top}
 use Rattle.ir_machine.specs.Valid.{Scope, scope_of, IsAmongFirst, IsMarkKnown, Known, AreOrdered, AreBlocks, IsValid, IsLater}
-use Rattle.ir_machine.proofs.Basics.{clash, same, other_than, put_at, Along}
+use Rattle.ir_machine.proofs.Basics.{other_than, put_at, Along}
 use Rattle.ir_machine.proofs.Instructions.{IsNoPtr}
-use Rattle.ir_machine.proofs.Carried.{IsSameBlock, IsCarried, mapped, joined, both}
+use Rattle.ir_machine.proofs.Carried.{IsSameBlock, IsCarried}
 use Rattle.ir_machine.proofs.Brought.{with_call, IsClosed, Brought, all_moved}
 
 -- ---- 'known' is closed under what the machine does with values
@@ -53,7 +58,7 @@ known_carried s = record {
   block = λ b o low. (low, tt);
   moved = λ x d known same. (
     among_same s.count x.datum d same known.0,
-    mapped (IsMarkKnown s x.datum) (IsMarkKnown s d) x.origins (λ k is. (is.0, among_same (s.born k.call) x.datum d same is.1)) known.1,
+    every_mapped (IsMarkKnown s x.datum) (IsMarkKnown s d) x.origins (λ k is. (is.0, among_same (s.born k.call) x.datum d same is.1)) known.1,
   );
 }
 
@@ -68,11 +73,11 @@ pub known_closed : IsClosed Known
 known_closed = record {
   carried = known_carried;
   wider = λ s x known. (among_less s.count (s.count + 1) x.datum (omega arith) known.0, known.1);
-  further = λ s x known. (known.0, mapped (IsMarkKnown s x.datum) (IsMarkKnown (with_call s) x.datum) x.origins (known_further s x.datum) known.1);
+  further = λ s x known. (known.0, every_mapped (IsMarkKnown s x.datum) (IsMarkKnown (with_call s) x.datum) x.origins (known_further s x.datum) known.1);
   marked = λ s x j known. (
     known.0,
-    joined (IsMarkKnown (with_call s) x.datum) x.origins (record { call = s.next_call; param = j } ∷ [])
-        (mapped (IsMarkKnown s x.datum) (IsMarkKnown (with_call s) x.datum) x.origins (known_further s x.datum) known.1)
+    every_append (IsMarkKnown (with_call s) x.datum) x.origins (record { call = s.next_call; param = j } ∷ [])
+        (every_mapped (IsMarkKnown s x.datum) (IsMarkKnown (with_call s) x.datum) x.origins (known_further s x.datum) known.1)
         ((omega arith, put_at (λ n. IsAmongFirst n x.datum) s.next_call s.count s.born s.next_call (λ e. known.0) (λ other. absurd (other refl))), tt),
   );
 }
@@ -177,18 +182,14 @@ begun_moved t Ends is n low = is n low
 
 -- ---- blocks
 
-positive : (n : ℕ) → not (n == 0) ≡ true → 0 < n
-positive zero e = absurd (cc)
-positive (suc n) e = omega arith
-
 below_passes : (n : ℕ) (test : ℕ → Bool) → all_below n test ≡ true → (k : ℕ) → k < n → test k ≡ true
 below_passes zero test all k low = absurd (omega (arith, low))
 below_passes (suc n) test all k low =
-    let parts = both (test n) (all_below n test) all in
+    let parts = and_parts (test n) (all_below n test) all in
     by (k == n) refl parts.0 (λ less. below_passes n test parts.1 k less)
   where
     by : (b : Bool) → (k == n) ≡ b → test n ≡ true → (k < n → test k ≡ true) → test k ≡ true
-    by true e at_n later = subst (λ j. test j ≡ true) (sym (same k n e)) at_n
+    by true e at_n later = subst (λ j. test j ≡ true) (sym (eqb-true k n e)) at_n
     by false e at_n later = let other : k ≢ n = other_than k n e in later (omega (arith, low, other))
 
 -- what a new block's room is
@@ -196,8 +197,8 @@ room_is : (mem : Memory) (base size : ℕ) → has_room mem base size ≡ true �
     (0 < base) × (base + size < 2 ^ 64) × ((n : ℕ) → n < mem.count → leaves_free mem base size n ≡ true)
 unfolding has_room
 room_is mem base size has =
-    let parts = both (not (base == 0) && nat_lt (base + size) (2 ^ 64)) (all_below mem.count (leaves_free mem base size)) has in
-    let ends = both (not (base == 0)) (nat_lt (base + size) (2 ^ 64)) parts.0 in
+    let parts = and_parts (not (base == 0) && nat_lt (base + size) (2 ^ 64)) (all_below mem.count (leaves_free mem base size)) has in
+    let ends = and_parts (not (base == 0)) (nat_lt (base + size) (2 ^ 64)) parts.0 in
     (positive base ends.0, ltb-true (base + size) (2 ^ 64) ends.1, below_passes mem.count (leaves_free mem base size) parts.1)
 
 is_dead_of : (life' : Life) → life' ≡ Dead → is_dead life' ≡ true
@@ -261,7 +262,7 @@ blocks_turned t block life' valid alive = record {
     was : (n : ℕ) → put block life' t.memory.life n ≢ Dead → t.memory.life n ≢ Dead
     was n now =
         put_at (λ l. l ≢ Dead → t.memory.life n ≢ Dead) block life' t.memory.life n
-        (λ e _ dead. clash (sym (is_dead_of (t.memory.life n) dead) ∙ subst (λ k. is_dead (t.memory.life k) ≡ false) (sym e) alive)) (λ _ is. is) now
+        (λ e _ dead. true≢false (sym (is_dead_of (t.memory.life n) dead) ∙ subst (λ k. is_dead (t.memory.life k) ≡ false) (sym e) alive)) (λ _ is. is) now
 
 blocks_ended : (t : State) → IsValid t → AreBlocks (without_top t.stack t.memory) (scope_of t)
 blocks_ended t valid = record {
@@ -335,7 +336,7 @@ later_moved t (Turns block life') fits = record {
   home = λ symbol. refl;
   shape = λ b low. refl;
   dead = λ b low dead. put_at (λ l. l ≡ Dead) block life' t.memory.life b
-      (λ e. absurd (clash (sym (is_dead_of (t.memory.life b) dead) ∙ subst (λ k. is_dead (t.memory.life k) ≡ false) (sym e) fits))) (λ _. dead);
+      (λ e. absurd (true≢false (sym (is_dead_of (t.memory.life b) dead) ∙ subst (λ k. is_dead (t.memory.life k) ≡ false) (sym e) fits))) (λ _. dead);
 }
 later_moved t (Fills block bytes) fits = record { count = omega arith; home = λ symbol. refl; shape = λ b low. refl; dead = λ b low dead. dead }
 later_moved t (Keeps x) fits = later_refl t.memory

@@ -1,6 +1,7 @@
 -- Instructions that compute a value from their operands alone (LangRef, "Binary Operations", "Bitwise Binary Operations",
 -- "Conversion Operations", "Other Operations", "'getelementptr' Instruction").
-use Rattle.std.specs.Prelude.{ℕ, ◌-◌, ◌%◌, ◌^◌, ◌==◌, ◌&&◌, ◌||◌, not, nat_lt, int_le, pos, ℤ, ◌+ℤ◌, ◌*ℤ◌, Bool, true, false, if◌then◌else◌, List, [], ◌∷◌, drop, slice_get, Option, Some, is_some}
+use Rattle.std.specs.Prelude.{ℕ, ◌-◌, ◌%◌, ◌^◌, ◌==◌, ◌&&◌, ◌||◌, not, nat_lt, int_le, pos, ℤ, ◌+ℤ◌, ◌*ℤ◌, Bool, true, false, if◌then◌else◌, List, [], ◌∷◌}
+use Rattle.std.specs.Prelude.{drop, slice_get, Option, Some, is_some}
 use Rattle.attr_ids.specs.declared.ids.TypeId.{TypeId}
 use Rattle.ir_types.specs.declared.ir_type.IrType.{IrType}
 use Rattle.ir_types.specs.declared.ir_type.IrType.TheVariants as type

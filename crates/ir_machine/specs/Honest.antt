@@ -3,7 +3,8 @@ use Rattle.std.specs.Prelude.{◌≡◌, ℕ, Bool, true, false, List, Option, N
 use Rattle.ir_module.specs.declared.op.Instr.{Instr}
 use Rattle.ir_module.specs.declared.module.Module.{Module}
 use Rattle.ir_module.specs.Places.{instr_at}
-use Rattle.ir_module.specs.Calls.{Promise, Nounwind, Noreturn, Nofree, Nocallback, Memory, Nocapture, Readnone, Readonly, Writeonly, Returned, Nonnull, Align, Dereferenceable, is_promised}
+use Rattle.ir_module.specs.Calls.{Promise, Nounwind, Noreturn, Nofree, Nocallback, Memory, Nocapture, Readnone, Readonly, Writeonly, Returned, Nonnull, Align}
+use Rattle.ir_module.specs.Calls.{Dereferenceable, is_promised}
 use Rattle.ir_machine.specs.Frames.{Made, Lowest, Entered, At, Active, Event}
 use Rattle.ir_machine.specs.Runs.{Done, events_of}
 use Rattle.ir_machine.specs.Meanings.{Keeps, nounwind, noreturn, nofree, nocallback, memory, nocapture, readnone, readonly, writeonly, returned}

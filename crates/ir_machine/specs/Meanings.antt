@@ -11,7 +11,8 @@ use Rattle.ir_machine.specs.declared.choice.Datum.TheVariants as datum
 use Rattle.ir_machine.specs.declared.choice.Mark.{Mark}
 use Rattle.ir_machine.specs.declared.choice.Value.{Value}
 use Rattle.ir_machine.specs.Memory.{Memory, Live, address}
-use Rattle.ir_machine.specs.Frames.{Made, Lowest, Entered, At, Begun, Frame, Active, active, What, Enter, Read, Write, HiddenRead, HiddenWrite, Free, Capture, Return, Unwind, Event}
+use Rattle.ir_machine.specs.Frames.{Made, Lowest, Entered, At, Begun, Frame, Active, active, What, Enter, Read, Write, HiddenRead, HiddenWrite, Free, Capture}
+use Rattle.ir_machine.specs.Frames.{Return, Unwind, Event}
 use Rattle.ir_machine.specs.Moves.{Outcome, Gives}
 use Rattle.ir_machine.specs.Calls.{came_back}
 use Rattle.ir_machine.specs.Runs.{Done, events_of}

@@ -1,5 +1,6 @@
 -- Operands as an instruction reads them (LangRef, "Constants", "Constant Expressions"), and the picks that this takes.
-use Rattle.std.specs.Prelude.{ℕ, ◌+◌, ◌%◌, ◌^◌, ◌==◌, ◌&&◌, not, nat_le, int_le, pos, Bool, true, false, if◌then◌else◌, List, [], ◌∷◌, drop, slice_get, Option, None, Some, Result, Ok, Err}
+use Rattle.std.specs.Prelude.{ℕ, ◌+◌, ◌%◌, ◌^◌, ◌==◌, ◌&&◌, not, nat_le, int_le, pos, Bool, true, false, if◌then◌else◌, List, [], ◌∷◌, drop, slice_get, Option}
+use Rattle.std.specs.Prelude.{None, Some, Result, Ok, Err}
 use Rattle.attr_ids.specs.declared.ids.TypeId.{TypeId}
 use Rattle.ir_types.specs.declared.ir_type.IrType.{IrType}
 use Rattle.ir_types.specs.declared.ir_type.IrType.TheVariants as type

@@ -1,9 +1,13 @@
 -- The frames of every run are linked: a lemma for each way in which a stack changes.
-use Rattle.std.proofs.Common.{◌≡◌, ℕ, zero, suc, ◌+◌, ◌<◌, ◌≤◌, Bool, true, false, if◌then◌else◌, not, ◌==◌, ◌&&◌, ◌||◌, List, [], ◌∷◌, slice_get}
+use Rattle.std.proofs.Common.{◌≡◌, ℕ, ◌+◌, ◌<◌, ◌≤◌, Bool, true, false, if◌then◌else◌, not, ◌==◌, ◌||◌, List, [], ◌∷◌, slice_get}
 use Rattle.std.proofs.Common.{length, Option, None, Some, refl, sym, ap, subst, ◌∙◌, arith, map}
 use Rattle.std.specs.List.{AllByRecursion}
 use Rattle.std.specs.Option.{option_and_then}
+use Rattle.std.proofs.lemmas.Bool.{and_parts}
+use Rattle.std.proofs.lemmas.Option.{same_Some}
 use Rattle.attr_ids.specs.declared.ids.FuncId.{FuncId}
+use Rattle.shelf.proofs.Every.{every_always, every_mapped}
+use Rattle.shelf.proofs.Shelf.{positive}
 use Rattle.ir_module.specs.declared.op.Op.{Op}
 use Rattle.ir_module.specs.declared.op.Op.TheVariants as op
 use Rattle.ir_module.specs.declared.op.Instr.{Instr}
@@ -31,7 +35,7 @@ use Rattle.ir_meaning.specs.Machine.{behind, Ended}
 use Rattle.ir_meaning.specs.Runs.{Done, run, events_of, IsOpening}
 use Rattle.ir_meaning.specs.Links.{CallsBodyIn, BeginsAs, RunsItsCallee, IsMadeBy, IsPlaced, AreLinked, IsLinked}
 use Rattle.ir_meaning.proofs.Instructions.{each_call, by_kind, lands_by_edge}
-use Rattle.ir_meaning.proofs.Runs.{Keeps, run_law, always, mapped, of_events}
+use Rattle.ir_meaning.proofs.Runs.{Keeps, run_law, of_events}
 
 -- ---- where a body begins
 spot_in : (m : Module) (f k i at : ℕ) (seg : Seg) (b : Block) → slice_get m.segs k ≡ Some seg → seg.block.0 ≡ i → slice_get m.blocks i ≡ Some b → b.func.0 ≡ f →
@@ -53,18 +57,10 @@ begins_in m f None formed is body = absurd (cc)
 begins_in m f (Some func) formed is body =
     let some : 0 < func.block_count = positive func.block_count body in
     starts_in m f func.first_block formed ((formed.funcs f func is).blocks func.first_block (omega arith, omega arith))
-  where
-    positive : (n : ℕ) → not (n == 0) ≡ true → 0 < n
-    positive zero h = absurd (cc)
-    positive (suc n) h = omega arith
 
 pub body_begins : (m : Module) (f : ℕ) → IsWellFormed m → has_blocks (slice_get m.funcs f) ≡ true → IsIn m f (entry_of m f)
 unfolding entry_of
 body_begins m f formed body = begins_in m f (slice_get m.funcs f) formed refl body
-
-left_true : (a b : Bool) → (a && b) ≡ true → a ≡ true
-left_true true b e = refl
-left_true false b e = e
 
 open_has_blocks : (m : Module) (f : ℕ) → is_open m f ≡ true → has_blocks (slice_get m.funcs f) ≡ true
 unfolding is_open
@@ -72,11 +68,11 @@ open_has_blocks m f h = by (slice_get m.funcs f) h
   where
     by : (found : Option Func) → is_open_in (is_taken m f) found ≡ true → has_blocks found ≡ true
     by None e = e
-    by (Some func) e = left_true (not (func.block_count == 0)) (is_visible func.linkage || is_taken m f) e
+    by (Some func) e = (and_parts (not (func.block_count == 0)) (is_visible func.linkage || is_taken m f) e).0
 
 exact_has_blocks : (found : Option Func) → is_exact_in found ≡ true → has_blocks found ≡ true
 exact_has_blocks None e = e
-exact_has_blocks (Some func) e = left_true (not (func.block_count == 0)) (not (is_replaceable func.linkage)) e
+exact_has_blocks (Some func) e = (and_parts (not (func.block_count == 0)) (not (is_replaceable func.linkage)) e).0
 
 -- what an inner call runs is an exact body
 inner_by : (m : Module) (f : ℕ) (named : Option FuncId) → callee_in (is_exact_in (option_and_then (λ g. slice_get m.funcs g.0) named)) named ≡ Some f →
@@ -113,13 +109,10 @@ behind_in : (m : Module) (f : ℕ) (s : Spot) (instr : Instr) → IsWellFormed m
     s.seg.0 + 1 < at.block.first_seg + at.block.seg_count → IsIn m f (behind_call s)
 behind_in m f s instr formed is at more =
     let home_of = formed.segs s.seg.0 at.stands.seg at.stands.at_seg in
-    let same : home_of.0 ≡ at.block = some_is (sym home_of.1 ∙ at.at_block) in
+    let same : home_of.0 ≡ at.block = same_Some _ _ (sym home_of.1 ∙ at.at_block) in
     let low : at.block.first_seg ≤ s.seg.0 = subst (λ b. b.first_seg ≤ s.seg.0) same home_of.2.place.0 in
     let seg = (formed.blocks at.stands.seg.block.0 at.block at.at_block).segs (s.seg.0 + 1) (omega arith, more) in
     spot_in m f (s.seg.0 + 1) at.stands.seg.block.0 0 seg.0 at.block seg.1 seg.2 at.at_block (home m f s instr is at)
-  where
-    some_is : {a b : Block} → Some a ≡ Some b → a ≡ b
-    some_is e = cc
 
 returned_in : (m : Module) (f : ℕ) (s : Spot) (instr : Instr) → IsWellFormed m → IsIn m f s → instr_at m s ≡ Some instr → is_call instr.op ≡ true →
     IsIn m f (returned_to m s instr.op)
@@ -320,12 +313,12 @@ module _ (m : Module) (formed : IsWellFormed m) where
 
   all_were : (opening : State) → IsOpening opening → (choices : List Choice) → AllByRecursion Was (run m opening choices)
   all_were opening is choices =
-      run_law m Inv Free Was linked_step choices opening (opening_linked opening is) (always Free (run m opening choices) (λ d. tt))
+      run_law m Inv Free Was linked_step choices opening (opening_linked opening is) (every_always Free (run m opening choices) (λ d. tt))
 
   pub all_linked : (opening : State) → IsOpening opening → (choices : List Choice) → AllByRecursion (λ d. IsLinked m d.before.stack) (run m opening choices)
-  all_linked opening is choices = mapped Was (λ d. IsLinked m d.before.stack) (run m opening choices) (λ d was. was.0) (all_were opening is choices)
+  all_linked opening is choices = every_mapped Was (λ d. IsLinked m d.before.stack) (run m opening choices) (λ d was. was.0) (all_were opening is choices)
 
   pub all_run : (opening : State) → IsOpening opening → (choices : List Choice) → AllByRecursion Run (events_of (run m opening choices))
   all_run opening is choices =
       of_events Run (run m opening choices)
-      (mapped Was (λ d. AllByRecursion Run d.events) (run m opening choices) (λ d was. was.1) (all_were opening is choices))
+      (every_mapped Was (λ d. AllByRecursion Run d.events) (run m opening choices) (λ d was. was.1) (all_were opening is choices))

@@ -2,6 +2,7 @@
 -- the next call gets a number above them all.
 use Rattle.std.proofs.Common.{◌≡◌, ℕ, ◌≤◌, Bool, true, false, if◌then◌else◌, List, [], ◌∷◌, Option, None, Some, refl, sym, subst, arith}
 use Rattle.std.specs.List.{AllByRecursion}
+use Rattle.shelf.proofs.Every.{every_always}
 use Rattle.ir_module.specs.declared.op.Op.{Op}
 use Rattle.ir_module.specs.declared.op.Instr.{Instr}
 use Rattle.ir_module.specs.declared.module.Module.{Module}
@@ -17,7 +18,7 @@ use Rattle.ir_meaning.specs.Machine.{gone_on, Landing, Lands, Passes, landing, l
 use Rattle.ir_meaning.specs.Runs.{Done, run, IsOpening}
 use Rattle.ir_meaning.specs.Links.{AreNumbered}
 use Rattle.ir_meaning.proofs.Instructions.{by_kind}
-use Rattle.ir_meaning.proofs.Runs.{Keeps, run_law, always}
+use Rattle.ir_meaning.proofs.Runs.{Keeps, run_law}
 
 -- a bound may be raised
 raised : (n n' : ℕ) (stack : List Frame) → n ≤ n' → AreNumbered n stack → AreNumbered n' stack
@@ -118,4 +119,4 @@ module _ (m : Module) where
   pub all_numbered : (opening : State) → IsOpening opening → (choices : List Choice) → AllByRecursion Was (run m opening choices)
   all_numbered opening is choices =
       run_law m Inv Free Was numbered_step choices opening (subst (AreNumbered opening.next_call) (sym is.stack) (omega (arith, is.next_call), tt))
-      (always Free (run m opening choices) (λ d. tt))
+      (every_always Free (run m opening choices) (λ d. tt))

@@ -1,6 +1,7 @@
 -- One induction over the steps of a run, for every invariant and every two facts of a step.
-use Rattle.std.proofs.Common.{List, [], ◌∷◌, ◌++◌}
+use Rattle.std.proofs.Common.{List, [], ◌∷◌}
 use Rattle.std.specs.List.{AllByRecursion}
+use Rattle.shelf.proofs.Every.{every_append, every_parts}
 use Rattle.ir_module.specs.declared.module.Module.{Module}
 use Rattle.ir_meaning.specs.declared.choice.Choice.{Choice}
 use Rattle.ir_meaning.specs.Frames.{State, Event}
@@ -26,32 +27,12 @@ module _ (m : Module) (Inv : State → Type 0) (P Q : Done → Type 0) (keeps : 
   run_law [] t inv p = tt
   run_law (choice ∷ choices) t inv p = on_step choices t (step m t choice) (keeps t choice inv) (λ next. run_law choices next) p
 
--- what holds of every step holds of every step of a run
-pub always : (P : Done → Type 0) (steps : List Done) → ((d : Done) → P d) → AllByRecursion P steps
-always P [] all = tt
-always P (d ∷ steps) all = (all d, always P steps all)
-
-pub mapped : (P Q : Done → Type 0) (steps : List Done) → ((d : Done) → P d → Q d) → AllByRecursion P steps → AllByRecursion Q steps
-mapped P Q [] leads all = tt
-mapped P Q (d ∷ steps) leads all = (leads d all.0, mapped P Q steps leads all.1)
-
-pub each : (P Q : Event → Type 0) (events : List Event) → ((e : Event) → P e → Q e) → AllByRecursion P events → AllByRecursion Q events
-each P Q [] leads all = tt
-each P Q (e ∷ events) leads all = (leads e all.0, each P Q events leads all.1)
-
 -- ---- facts of the events of each step, and of all events
-joined : (P : Event → Type 0) (events rest : List Event) → AllByRecursion P events → AllByRecursion P rest → AllByRecursion P (events ++ rest)
-joined P [] rest here there = there
-joined P (e ∷ events) rest here there = (here.0, joined P events rest here.1 there)
-
-parted : (P : Event → Type 0) (events rest : List Event) → AllByRecursion P (events ++ rest) → AllByRecursion P events × AllByRecursion P rest
-parted P [] rest all = (tt, all)
-parted P (e ∷ events) rest all = let both = parted P events rest all.1 in ((all.0, both.0), both.1)
 
 pub of_events : (P : Event → Type 0) (steps : List Done) → AllByRecursion (λ d. AllByRecursion P d.events) steps → AllByRecursion P (events_of steps)
 of_events P [] all = tt
-of_events P (d ∷ steps) all = joined P d.events (events_of steps) all.0 (of_events P steps all.1)
+of_events P (d ∷ steps) all = every_append P d.events (events_of steps) all.0 (of_events P steps all.1)
 
 pub of_steps : (P : Event → Type 0) (steps : List Done) → AllByRecursion P (events_of steps) → AllByRecursion (λ d. AllByRecursion P d.events) steps
 of_steps P [] all = tt
-of_steps P (d ∷ steps) all = let both = parted P d.events (events_of steps) all in (both.0, of_steps P steps both.1)
+of_steps P (d ∷ steps) all = let both = every_parts P d.events (events_of steps) all in (both.0, of_steps P steps both.1)

@@ -1,6 +1,7 @@
 -- The written types of parameters against the parameters.
-use Rattle.std.proofs.Common.{◌≡◌, ◌&&◌, length, List, [], ◌∷◌, Bool, true, false, arith, refl, subst, ◌<◌, if◌then◌else◌, slice_get, Option, Some, None}
+use Rattle.std.proofs.Common.{◌≡◌, length, List, [], ◌∷◌, Bool, true, false, arith, refl, subst, ◌<◌, slice_get, Option, Some, None, if◌then◌else◌}
 use Rattle.std.proofs.lemmas.Option.{slice_get_within}
+use Rattle.std.proofs.Math.Bool.{and-false}
 use Rattle.attr_ids.specs.declared.ids.FuncId.{FuncId}
 use Rattle.ir_module.specs.declared.op.Op.{Op}
 use Rattle.ir_module.specs.declared.op.Op.TheVariants as op
@@ -13,10 +14,6 @@ use Rattle.ir_module.specs.declared.module.Param.{Param}
 use Rattle.ir_module.specs.declared.module.Module.{Module}
 use Rattle.ir_module.specs.Calls.{fit_params, is_same_type, is_type_of, named, direct_callee}
 
-and_false : (b : Bool) → (b && false) ≡ false
-and_false true = refl
-and_false false = refl
-
 -- lists of two lengths do not fit
 pub unfit : (m : Module) (ts : List TypeId) (ps : List Param) → (length ts ≡ length ps → ⊥) → fit_params m ts ps ≡ false
 unfit m [] [] n = absurd (n refl)
@@ -24,7 +21,7 @@ unfit m [] (q ∷ ps) n = refl
 unfit m (u ∷ ts) [] n = refl
 unfit m (u ∷ ts) (q ∷ ps) n =
     let h : fit_params m ts ps ≡ false = unfit m ts ps (λ e. n (omega (arith, e))) in
-    rw h (and_false (is_same_type m u q.ty))
+    rw h (and-false (is_same_type m u q.ty))
 
 chosen : (b : Bool) (g f : FuncId) → (if b then Some g else None) ≡ Some f → g ≡ f
 chosen true g f e = cc

@@ -1,6 +1,7 @@
 -- Blocks and segments of a well formed module lie in runs.
 use Rattle.std.proofs.Common.{◌≡◌, ◌+◌, ◌-◌, ◌<◌, ◌≤◌, ℕ, zero, suc, length, slice_get, get_or, List, [], ◌∷◌, Some, arith, subst, refl}
 use Rattle.std.proofs.lemmas.Option.{slice_get_within, slice_get-get_or, slice_get_read}
+use Rattle.shelf.proofs.Shelf.{get_there}
 use Rattle.ir_module.specs.declared.module.Seg.{Seg}
 use Rattle.ir_module.specs.declared.module.Block.{Block}
 use Rattle.ir_module.specs.declared.module.Func.{Func}
@@ -12,11 +13,6 @@ use Rattle.ir_module.specs.WellFormed.{IsWellFormed}
 -- what was read of a list by a slice of it
 pub read_at : {X : Type 0} → (xs ys : List X) (i : ℕ) (x : X) → ys ≡ xs → i < length xs → x ≡ get_or ys i x → slice_get xs i ≡ Some x
 read_at {X} xs ys i x same inside is = slice_get_read xs (length xs) i x refl inside (subst (λ (zs : List X). x ≡ get_or zs i x) same is)
-
-pub there : {X : Type 0} → (xs : List X) (k : ℕ) → k < length xs → (x : X) × (slice_get xs k ≡ Some x)
-there [] k l = absurd (omega (arith, l))
-there (x ∷ xs) zero l = (x, refl)
-there (x ∷ xs) (suc k) l = there xs k (omega (arith, l))
 
 -- a segment that stands in a block is one of its run
 pub is_of_run : (m : Module) (i k : ℕ) (b : Block) → IsWellFormed m → slice_get m.blocks i ≡ Some b → IsSegInBlock m i k → IsSegOf b k
@@ -129,6 +125,6 @@ body_range m f i j k func b c w at_f first last some at_b at_c =
     let last' : j + 1 ≡ func.first_block + func.block_count = omega arith in (
       in_body m f k i j func b c w at_f first last' at_b at_c,
       λ h. let inside : k < length m.segs = omega (arith, run_within m j c w at_c, h.1) in
-          let found = there m.segs k inside in
+          let found = get_there m.segs k inside in
           of_body m f k i j func b c w at_f first last' at_b at_c h.0 h.1 found.0 found.1,
     )

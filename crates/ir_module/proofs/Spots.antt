@@ -1,6 +1,7 @@
 -- Where an instruction stands.
 use Rattle.std.proofs.Common.{◌≡◌, ◌<◌, length, slice_get, Option, None, Some, refl}
 use Rattle.std.proofs.lemmas.Option.{slice_get_within}
+use Rattle.shelf.proofs.Shelf.{get_there}
 use Rattle.ir_module.specs.declared.op.Instr.{Instr}
 use Rattle.ir_module.specs.declared.module.Seg.{Seg}
 use Rattle.ir_module.specs.declared.module.Block.{Block}
@@ -9,7 +10,6 @@ use Rattle.ir_module.specs.declared.module.Spot.{Spot}
 use Rattle.ir_module.specs.Places.{in_seg, instr_at}
 use Rattle.ir_module.specs.Formed.{IsInstrIn, IsPlaced}
 use Rattle.ir_module.specs.WellFormed.{HasResult, IsWellFormed}
-use Rattle.ir_module.proofs.Runs.{there}
 
 -- the segment of an instruction
 pub record StandsIn (m : Module) (s : Spot) (instr : Instr) : Type 0 where
@@ -34,7 +34,7 @@ at_spot m s seg instr e h = rw e h
 
 pub is_there : (m : Module) (s : Spot) (seg : Seg) → slice_get m.segs s.seg.0 ≡ Some seg → s.at < length seg.instrs
     → (instr : Instr) × (instr_at m s ≡ Some instr)
-is_there m s seg e l = let q = there seg.instrs s.at l in (q.0, at_spot m s seg q.0 e q.1)
+is_there m s seg e l = let q = get_there seg.instrs s.at l in (q.0, at_spot m s seg q.0 e q.1)
 
 -- the block of an instruction, and what its module's form says of it
 pub record IsFormedAt (m : Module) (s : Spot) (instr : Instr) : Type 0 where

@@ -94,4 +94,5 @@ Converts w v PtrToInt a r = ⊥
 pub record IsIntegerMathematics : Type 0 where
   pub operations : (w : ℕ) (op : BinOp) (a b : ℕ) → IsWidth w → a < 2 ^ w → b < 2 ^ w → IsAnswer w op a b (outcome w op a b)
   pub comparisons : (w : ℕ) (p : Pred) (a b : ℕ) → IsTrue (comparison w p a b) ↔ Holds w p a b
-  pub conversions : (w v : ℕ) (op : CastOp) (a : ℕ) → IsWidth w → IsWidth v → a < 2 ^ w → CanCast op w v → (converted w v op a < 2 ^ v) × Converts w v op a (converted w v op a)
+  pub conversions : (w v : ℕ) (op : CastOp) (a : ℕ) → IsWidth w → IsWidth v → a < 2 ^ w → CanCast op w v → (converted w v op a < 2 ^ v) ×
+      Converts w v op a (converted w v op a)

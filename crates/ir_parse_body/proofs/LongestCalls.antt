@@ -49,12 +49,20 @@ module _ (toks : List Terminal) where
   pub arg_no_type : (a : ℕ) → Longest (ty toks) a None → Longest (arg toks) a None
   arg_no_type a n = shape_none (arg toks) arg_back arg_view (λ x a b e. e) (pair_stop (ty_of toks) worded_of a n)
 
-  module _ (a first : ℕ) (kind : Ty) (l : Longest (ty toks) a (Some (kind, first))) (behind : ℕ) (words : List Rattr) (l' : Longest (many (rattr toks)) first (Some (words, behind))) where
+  module _ (a first : ℕ) (kind : Ty) (l : Longest (ty toks) a (Some (
+    kind,
+    first,
+  ))) (behind : ℕ) (words : List Rattr) (l' : Longest (many (rattr toks)) first (Some (words, behind))) where
     pub arg_no_value : Longest (value toks) behind None → Longest (arg toks) a None
-    arg_no_value n = shape_none (arg toks) arg_back arg_view (λ x a b e. e) (pair_none (ty_of toks) worded_of refl a first kind l (pair_none words_of (value_of toks) refl first behind words l' n))
+    arg_no_value n = shape_none (arg toks) arg_back arg_view (λ x a b e. e) (pair_none (ty_of toks) worded_of refl a first kind l
+        (pair_none words_of (value_of toks) refl first behind words l' n))
 
     pub arg_ends : (v : Value) (end : ℕ) → Longest (value toks) behind (Some (v, end)) → Longest (arg toks) a (Some (arg_back (kind, (words, v)), end))
-    arg_ends v end n = shape_some (arg toks) arg_back arg_view (λ x a b e. e) {x = (kind, (words, v))} (pair_some (ty_of toks) worded_of refl a first end kind (words, v) l (pair_some words_of (value_of toks) refl first behind end words v l' n))
+    arg_ends v end n = shape_some (arg toks) arg_back arg_view (λ x a b e. e) {x =
+        (kind, (words, v))} (pair_some (ty_of toks) worded_of refl a first end kind (
+          words,
+          v,
+        ) l (pair_some words_of (value_of toks) refl first behind end words v l' n))
 
   -- ---- `arg,*`
   abbrev pub next_arg_of : Known toks false (next toks (arg toks))
@@ -66,7 +74,8 @@ module _ (toks : List Terminal) where
       let m = the_moves toks k.Comma a s.0 s.1.0 in
       ((moves toks next_arg_of.first a n ((next_arg_of.at a).opens t n l.0)).0, omega (arith, m.0, m.1))
 
-  pub args_listed : (a m b : ℕ) (t : Arg) (ts : List Arg) → Longest (arg toks) a (Some (t, m)) → Longest (many (next toks (arg toks))) m (Some (ts, b)) → Longest (separated toks (arg toks)) a (Some (t ∷ ts, b))
+  pub args_listed : (a m b : ℕ) (t : Arg) (ts : List Arg) → Longest (arg toks) a (Some (t, m)) → Longest (many (next toks (arg toks))) m (Some (ts, b)) →
+      Longest (separated toks (arg toks)) a (Some (t ∷ ts, b))
   args_listed a m b t ts l rest =
       let all = pair_some (arg_of toks) (many_of next_arg_of refl) refl a m b t ts l rest in
       separated_some toks (arg toks) a b t ts (omega (arith, ((pair_of (arg_of toks) (many_of next_arg_of refl) refl).at a).opens (t, ts) b all.0)) all
@@ -97,7 +106,10 @@ module _ (toks : List Terminal) where
   abbrev result_of : Known toks false (pair (many (rattr toks)) (pair (ty toks) (pair (optional (ftype toks)) (value toks))))
   result_of = pair_of words_of typed_of refl
 
-  module _ (a first : ℕ) (convention : Option Cc) (l : Longest (optional (cc toks)) a (Some (convention, first))) (kind : ℕ) (words : List Rattr) (l' : Longest (many (rattr toks)) first (Some (words, kind))) where
+  module _ (a first : ℕ) (convention : Option Cc) (l : Longest (optional (cc toks)) a (Some (
+    convention,
+    first,
+  ))) (kind : ℕ) (words : List Rattr) (l' : Longest (many (rattr toks)) first (Some (words, kind))) where
     -- nothing is called where nothing of it fits from its type on
     typed_rest : Longest (pair (ty toks) (pair (optional (ftype toks)) (value toks))) kind None → Longest (callee toks) a None
     typed_rest rest =
@@ -107,7 +119,10 @@ module _ (toks : List Terminal) where
     pub callee_no_type : Longest (ty toks) kind None → Longest (callee toks) a None
     callee_no_type n = typed_rest (pair_stop (ty_of toks) named_of kind n)
 
-    module _ (result : Ty) (behind : ℕ) (l'' : Longest (ty toks) kind (Some (result, behind))) (params : Option Ftype) (name : ℕ) (l''' : Longest (optional (ftype toks)) behind (Some (params, name))) where
+    module _ (result : Ty) (behind : ℕ) (l'' : Longest (ty toks) kind (Some (
+      result,
+      behind,
+    ))) (params : Option Ftype) (name : ℕ) (l''' : Longest (optional (ftype toks)) behind (Some (params, name))) where
       pub callee_no_value : Longest (value toks) name None → Longest (callee toks) a None
       callee_no_value n =
           typed_rest (pair_none (ty_of toks) named_of refl kind behind result l'' (pair_none params_of (value_of toks) refl behind name params l''' n))
@@ -118,7 +133,10 @@ module _ (toks : List Terminal) where
           shape_some (callee toks) callee_back callee_view (λ x a b e. e) {x = (convention, (words, (result, (params, v))))}
           (pair_some convention_of result_of refl a first end convention (words, (result, (params, v))) l
           (pair_some words_of typed_of refl first kind end words (result, (params, v)) l'
-          (pair_some (ty_of toks) named_of refl kind behind end result (params, v) l'' (pair_some params_of (value_of toks) refl behind name end params v l''' n))))
+          (pair_some (ty_of toks) named_of refl kind behind end result (
+            params,
+            v,
+          ) l'' (pair_some params_of (value_of toks) refl behind name end params v l''' n))))
 
   -- ---- what is arguments to it
   abbrev arguments_shape : Unit {0} × (List Arg × (ℕ × List Word)) → Step
@@ -143,7 +161,10 @@ module _ (toks : List Terminal) where
   abbrev listed_of : Known toks false (pair (separated toks (arg toks)) (pair (leaf toks k.RightParen) (many (word toks))))
   listed_of = pair_of args_of close_of refl
 
-  module _ (a first : ℕ) (h : Some first ≡ the toks k.LeftParen a) (args : List Arg) (close : ℕ) (l : Longest (separated toks (arg toks)) first (Some (args, close))) where
+  module _ (a first : ℕ) (h : Some first ≡ the toks k.LeftParen a) (args : List Arg) (close : ℕ) (l : Longest (separated toks (arg toks)) first (Some (
+    args,
+    close,
+  ))) where
     pub arguments_no_close : None ≡ the toks k.RightParen close → Longest (arguments toks) a None
     arguments_no_close n =
         shape_none (arguments toks) arguments_back arguments_view (λ x a b e. e)
@@ -166,7 +187,8 @@ module _ (toks : List Terminal) where
   abbrev destinations_back : Unit {0} × (ℕ × (Unit {0} × ℕ)) → ℕ × ℕ
   destinations_back x = (x.1.0, x.1.1.1)
 
-  pub destinations_view : (t : ℕ × ℕ) (a b : ℕ) → destinations toks t a ≡ Some b → (x : Unit {0} × (ℕ × (Unit {0} × ℕ))) × ((destinations_back x ≡ t) × (destinations_shape x a ≡ Some b))
+  pub destinations_view : (t : ℕ × ℕ) (a b : ℕ) → destinations toks t a ≡ Some b → (x : Unit {0} × (ℕ × (Unit {0} × ℕ))) ×
+      ((destinations_back x ≡ t) × (destinations_shape x a ≡ Some b))
   destinations_view t a b e = ((tt, (t.0, (tt, t.1))), (refl, e))
 
   abbrev unwind_of : Known toks false (pair (λ (_ : Unit {0}). the toks k.Unwind) (target toks))
@@ -178,11 +200,13 @@ module _ (toks : List Terminal) where
   abbrev pub destinations_of : Known toks false (destinations toks)
   destinations_of = shape_of destinations_back destinations_view (pair_of (the_of k.To) normal_of refl)
 
-  pub destinations_no_unwind : (a first normal behind second : ℕ) → Some first ≡ the toks k.To a → Longest (target toks) first (Some (normal, behind)) → Some second ≡ the toks k.Unwind behind → Longest (target toks) second None → Longest (destinations toks) a None
+  pub destinations_no_unwind : (a first normal behind second : ℕ) → Some first ≡ the toks k.To a → Longest (target toks) first (Some (normal, behind)) →
+      Some second ≡ the toks k.Unwind behind → Longest (target toks) second None → Longest (destinations toks) a None
   destinations_no_unwind a first normal behind second h l h' n =
       shape_none (destinations toks) destinations_back destinations_view (λ x a b e. e)
       (pair_none (the_of k.To) normal_of refl a first tt (the_some toks k.To a first h)
-      (pair_none (target_of toks) unwind_of refl first behind normal l (pair_none (the_of k.Unwind) (target_of toks) refl behind second tt (the_some toks k.Unwind behind second h') n)))
+      (pair_none (target_of toks) unwind_of refl first behind normal l (pair_none (the_of k.Unwind) (target_of toks) refl behind second tt
+      (the_some toks k.Unwind behind second h') n)))
 
   -- ---- `called`
   abbrev called_shape : Callee × Arguments → Step

@@ -130,13 +130,15 @@ module _ (toks : List Terminal) where
   Opening a c = (t : Terminal) × ((slice_get toks a ≡ Some t) × Begun t a c)
 
   -- what an instruction begins with, whose first leaf is of one kind
-  opening : {T : Type 0} (t : Terminal) (q : T → Step) (x : ℕ × T) (a c : ℕ) → pair (leaf toks t) q x a ≡ Some c → (Fits (pair (leaf toks t) q) a c → Begun t a c) → Opening a c
+  opening : {T : Type 0} (t : Terminal) (q : T → Step) (x : ℕ × T) (a c : ℕ) → pair (leaf toks t) q x a ≡ Some c →
+      (Fits (pair (leaf toks t) q) a c → Begun t a c) → Opening a c
   opening t q x a c e tells =
       let s = split (leaf toks t x.0 a) (q x.1) c e in
       (t, (stands_token t a (leaf_stands (t ∷ []) x.0 a s.0 s.1.0), tells (x, e)))
 
   -- and one whose first leaf is of two kinds
-  opening_either : {T : Type 0} (t t' : Terminal) (q : T → Step) (x : ℕ × T) (a c : ℕ) → pair (one_of toks (t ∷ t' ∷ [])) q x a ≡ Some c → (Fits (pair (one_of toks (t ∷ t' ∷ [])) q) a c → Begun t a c × Begun t' a c) → Opening a c
+  opening_either : {T : Type 0} (t t' : Terminal) (q : T → Step) (x : ℕ × T) (a c : ℕ) → pair (one_of toks (t ∷ t' ∷ [])) q x a ≡ Some c →
+      (Fits (pair (one_of toks (t ∷ t' ∷ [])) q) a c → Begun t a c × Begun t' a c) → Opening a c
   opening_either t t' q x a c e tells =
       let s = split (one_of toks (t ∷ t' ∷ []) x.0 a) (q x.1) c e in
       let b = tells (x, e) in
@@ -144,7 +146,8 @@ module _ (toks : List Terminal) where
 
   -- each production of instructions by its first token: the only place where all of them are gone through
   begun : (u : Instr) (a c : ℕ) → instr toks u a ≡ Some c → Opening a c
-  begun (instr_is.Binop op flags kind left right) a c e = opening_either k.ConstBinop k.Binop binop_parts (op, (flags, (kind, (left, (tt, right))))) a c e (λ b. (b, b))
+  begun (instr_is.Binop op flags kind left right) a c e =
+      opening_either k.ConstBinop k.Binop binop_parts (op, (flags, (kind, (left, (tt, right))))) a c e (λ b. (b, b))
   begun (instr_is.Icmp x) a c e = opening k.Icmp icmp_parts (x.op, (x.flags, (x.pred, (x.ty, (x.left, (tt, x.right)))))) a c e (λ b. b)
   begun (instr_is.Cast op flags of to) a c e = opening_either k.ConstCast k.Cast cast_parts (op, (flags, (of, (tt, to)))) a c e (λ b. (b, b))
   begun (instr_is.Select x) a c e = opening k.Select select_parts (x.op, (x.on, (tt, (x.yes, (tt, x.no))))) a c e (λ b. b)
@@ -155,7 +158,10 @@ module _ (toks : List Terminal) where
   begun (instr_is.Store x) a c e = opening k.Store store_parts (x.op, (x.volatile, (x.value, (tt, (x.to, x.align))))) a c e (λ b. b)
   begun (instr_is.GetElementPtr op flags elem operands) a c e = opening k.GetElementPtr gep_parts (op, (flags, (elem, operands))) a c e (λ b. b)
   begun (instr_is.Call x) a c e = ⊎_elim (λ h. (k.Tail, (h, (x, e)))) (λ h. (k.Call, (h, (x, e)))) (call_token x a c e)
-  begun (instr_is.Cleanup op kind cleanup clauses) a c e = opening k.LandingPad (pair (ty toks) (pair (leaf toks k.Cleanup) (many (clause toks)))) (op, (kind, (cleanup, clauses))) a c e (λ b. tt)
+  begun (instr_is.Cleanup op kind cleanup clauses) a c e = opening k.LandingPad (pair (ty toks) (pair (leaf toks k.Cleanup) (many (clause toks)))) (
+    op,
+    (kind, (cleanup, clauses)),
+  ) a c e (λ b. tt)
   begun (instr_is.LandingPad op kind clauses) a c e = opening k.LandingPad (pair (ty toks) (some (clause toks))) (op, (kind, clauses)) a c e (λ b. tt)
 
   -- an instruction where this token stands
@@ -168,7 +174,9 @@ module _ (toks : List Terminal) where
   -- ---- the rest of an instruction behind its first token
   module _ {U : Type 0} {q : U → Step} (make : ℕ × U → Instr) (a first : ℕ) where
     -- where a leaf of these terminals stands and only instructions with this rest begin so
-    behind_leaf : (set : List Terminal) → Some first ≡ any_of toks set a → ((x : ℕ × U) (c : ℕ) → pair (one_of toks set) q x a ≡ Some c → instr toks (make x) a ≡ Some c) → ((u : Instr) (c : ℕ) → instr toks u a ≡ Some c → Fits (pair (one_of toks set) q) a c) → Remains (instr toks) a q first (λ u. make (a, u))
+    behind_leaf : (set : List Terminal) → Some first ≡ any_of toks set a → ((x : ℕ × U) (c : ℕ) → pair (one_of toks set) q x a ≡ Some c →
+        instr toks (make x) a ≡ Some c) → ((u : Instr) (c : ℕ) → instr toks u a ≡ Some c → Fits (pair (one_of toks set) q) a c) →
+        Remains (instr toks) a q first (λ u. make (a, u))
     behind_leaf set h fits only = record {
       fits = λ u c e. fits (a, u) c (taken (one_of toks set a a) first (q u) (Some c) (leaf_here set a ∙ sym h) e);
       only = λ u c e.
@@ -177,24 +185,55 @@ module _ (toks : List Terminal) where
           (b.0.1, subst (λ z. q b.0.1 z ≡ Some c) (leaf_ends set b.0.0 a s.0 first s.1.0 h) s.1.1);
     }
 
-    behind_token : (t : Terminal) → Some first ≡ the toks t a → ((x : ℕ × U) (c : ℕ) → pair (leaf toks t) q x a ≡ Some c → instr toks (make x) a ≡ Some c) → ((c : ℕ) → Begun t a c → Fits (pair (leaf toks t) q) a c) → Remains (instr toks) a q first (λ u. make (a, u))
-    behind_token t h fits only = behind_leaf (t ∷ []) h fits (λ u c e. only c (begun_as t u a c (stands_token t a (when_true (stands toks t a) (suc a) first (sym h)).0) e))
+    behind_token : (t : Terminal) → Some first ≡ the toks t a → ((x : ℕ × U) (c : ℕ) → pair (leaf toks t) q x a ≡ Some c → instr toks (make x) a ≡ Some c) →
+        ((c : ℕ) → Begun t a c → Fits (pair (leaf toks t) q) a c) → Remains (instr toks) a q first (λ u. make (a, u))
+    behind_token t h fits only = behind_leaf (t ∷ []) h fits
+        (λ u c e. only c (begun_as t u a c (stands_token t a (when_true (stands toks t a) (suc a) first (sym h)).0) e))
 
-    behind_either : (t t' : Terminal) → Some first ≡ any_of toks (t ∷ t' ∷ []) a → ((x : ℕ × U) (c : ℕ) → pair (one_of toks (t ∷ t' ∷ [])) q x a ≡ Some c → instr toks (make x) a ≡ Some c) → ((c : ℕ) → Begun t a c → Fits (pair (one_of toks (t ∷ t' ∷ [])) q) a c) → ((c : ℕ) → Begun t' a c → Fits (pair (one_of toks (t ∷ t' ∷ [])) q) a c) → Remains (instr toks) a q first (λ u. make (a, u))
-    behind_either t t' h fits only only' = behind_leaf (t ∷ t' ∷ []) h fits (λ u c e. ⊎_elim (λ h. only c (begun_as t u a c h e)) (λ h. only' c (begun_as t' u a c h e)) (either_stands t t' a (when_true (sees toks (among (t ∷ t' ∷ [])) a) (suc a) first (sym h)).0))
+    behind_either : (t t' : Terminal) → Some first ≡ any_of toks (t ∷ t' ∷ []) a → ((x : ℕ × U) (c : ℕ) → pair (one_of toks (t ∷ t' ∷ [])) q x a ≡ Some c →
+        instr toks (make x) a ≡ Some c) → ((c : ℕ) → Begun t a c → Fits (pair (one_of toks (t ∷ t' ∷ [])) q) a c) →
+        ((c : ℕ) → Begun t' a c → Fits (pair (one_of toks (t ∷ t' ∷ [])) q) a c) → Remains (instr toks) a q first (λ u. make (a, u))
+    behind_either t t' h fits only only' =
+        behind_leaf (t ∷ t' ∷ []) h fits (λ u c e. ⊎_elim (λ h. only c (begun_as t u a c h e)) (λ h. only' c (begun_as t' u a c h e))
+        (either_stands t t' a (when_true (sees toks (among (t ∷ t' ∷ [])) a) (suc a) first (sym h)).0))
 
   module _ (a first : ℕ) where
-    pub binop_rest : Some first ≡ any_of toks (k.ConstBinop ∷ k.Binop ∷ []) a → Remains (instr toks) a binop_parts first (λ x. instr_is.Binop a x.0 x.1.0 x.1.1.0 x.1.1.1.1)
+    pub binop_rest : Some first ≡ any_of toks (k.ConstBinop ∷ k.Binop ∷ []) a →
+        Remains (instr toks) a binop_parts first (λ x. instr_is.Binop a x.0 x.1.0 x.1.1.0 x.1.1.1.1)
     binop_rest h = behind_either (λ x. instr_is.Binop x.0 x.1.0 x.1.1.0 x.1.1.1.0 x.1.1.1.1.1) a first k.ConstBinop k.Binop h (λ x c e. e) (λ c b. b) (λ c b. b)
 
-    pub icmp_rest : Some first ≡ the toks k.Icmp a → Remains (instr toks) a icmp_parts first (λ x. instr_is.Icmp (record { op = a; flags = x.0; pred = x.1.0; ty = x.1.1.0; left = x.1.1.1.0; right = x.1.1.1.1.1 }))
-    icmp_rest h = behind_token (λ x. instr_is.Icmp (record { op = x.0; flags = x.1.0; pred = x.1.1.0; ty = x.1.1.1.0; left = x.1.1.1.1.0; right = x.1.1.1.1.1.1 })) a first k.Icmp h (λ x c e. e) (λ c b. b)
+    pub icmp_rest : Some first ≡ the toks k.Icmp a →
+        Remains (instr toks) a icmp_parts first (λ x. instr_is.Icmp (record {
+          op = a;
+          flags = x.0;
+          pred = x.1.0;
+          ty = x.1.1.0;
+          left = x.1.1.1.0;
+          right =
+              x.1.1.1.1.1;
+        }))
+    icmp_rest h = behind_token (λ x. instr_is.Icmp (record {
+      op = x.0;
+      flags = x.1.0;
+      pred = x.1.1.0;
+      ty = x.1.1.1.0;
+      left = x.1.1.1.1.0;
+      right =
+          x.1.1.1.1.1.1;
+    })) a first k.Icmp h (λ x c e. e) (λ c b. b)
 
     pub cast_rest : Some first ≡ any_of toks (k.ConstCast ∷ k.Cast ∷ []) a → Remains (instr toks) a cast_parts first (λ x. instr_is.Cast a x.0 x.1.0 x.1.1.1)
     cast_rest h = behind_either (λ x. instr_is.Cast x.0 x.1.0 x.1.1.0 x.1.1.1.1) a first k.ConstCast k.Cast h (λ x c e. e) (λ c b. b) (λ c b. b)
 
-    pub select_rest : Some first ≡ the toks k.Select a → Remains (instr toks) a select_parts first (λ x. instr_is.Select (record { op = a; on = x.0; yes = x.1.1.0; no = x.1.1.1.1 }))
-    select_rest h = behind_token (λ x. instr_is.Select (record { op = x.0; on = x.1.0; yes = x.1.1.1.0; no = x.1.1.1.1.1 })) a first k.Select h (λ x c e. e) (λ c b. b)
+    pub select_rest : Some first ≡ the toks k.Select a →
+        Remains (instr toks) a select_parts first (λ x. instr_is.Select (record { op = a; on = x.0; yes = x.1.1.0; no = x.1.1.1.1 }))
+    select_rest h = behind_token (λ x. instr_is.Select (record {
+      op = x.0;
+      on = x.1.0;
+      yes = x.1.1.1.0;
+      no =
+          x.1.1.1.1.1;
+    })) a first k.Select h (λ x c e. e) (λ c b. b)
 
     pub freeze_rest : Some first ≡ the toks k.Freeze a → Remains (instr toks) a (tvalue toks) first (λ of. instr_is.Freeze a of)
     freeze_rest h = behind_token (λ x. instr_is.Freeze x.0 x.1) a first k.Freeze h (λ x c e. e) (λ c b. b)
@@ -202,14 +241,29 @@ module _ (toks : List Terminal) where
     pub phi_rest : Some first ≡ the toks k.Phi a → Remains (instr toks) a phi_parts first (λ x. instr_is.Phi a x.0 x.1)
     phi_rest h = behind_token (λ x. instr_is.Phi x.0 x.1.0 x.1.1) a first k.Phi h (λ x c e. e) (λ c b. b)
 
-    pub alloca_rest : Some first ≡ the toks k.Alloca a → Remains (instr toks) a alloca_parts first (λ x. instr_is.Alloca (record { op = a; ty = x.0; count = x.1.0; align = x.1.1 }))
-    alloca_rest h = behind_token (λ x. instr_is.Alloca (record { op = x.0; ty = x.1.0; count = x.1.1.0; align = x.1.1.1 })) a first k.Alloca h (λ x c e. e) (λ c b. b)
+    pub alloca_rest : Some first ≡ the toks k.Alloca a →
+        Remains (instr toks) a alloca_parts first (λ x. instr_is.Alloca (record { op = a; ty = x.0; count = x.1.0; align = x.1.1 }))
+    alloca_rest h = behind_token (λ x. instr_is.Alloca (record {
+      op = x.0;
+      ty = x.1.0;
+      count = x.1.1.0;
+      align =
+          x.1.1.1;
+    })) a first k.Alloca h (λ x c e. e) (λ c b. b)
 
     pub load_rest : Some first ≡ the toks k.Load a → Remains (instr toks) a load_parts first (λ x. instr_is.Load a x.0 x.1.0 x.1.1.1.0 x.1.1.1.1)
     load_rest h = behind_token (λ x. instr_is.Load x.0 x.1.0 x.1.1.0 x.1.1.1.1.0 x.1.1.1.1.1) a first k.Load h (λ x c e. e) (λ c b. b)
 
-    pub store_rest : Some first ≡ the toks k.Store a → Remains (instr toks) a store_parts first (λ x. instr_is.Store (record { op = a; volatile = x.0; value = x.1.0; to = x.1.1.1.0; align = x.1.1.1.1 }))
-    store_rest h = behind_token (λ x. instr_is.Store (record { op = x.0; volatile = x.1.0; value = x.1.1.0; to = x.1.1.1.1.0; align = x.1.1.1.1.1 })) a first k.Store h (λ x c e. e) (λ c b. b)
+    pub store_rest : Some first ≡ the toks k.Store a →
+        Remains (instr toks) a store_parts first (λ x. instr_is.Store (record { op = a; volatile = x.0; value = x.1.0; to = x.1.1.1.0; align = x.1.1.1.1 }))
+    store_rest h = behind_token (λ x. instr_is.Store (record {
+      op = x.0;
+      volatile = x.1.0;
+      value = x.1.1.0;
+      to = x.1.1.1.1.0;
+      align =
+          x.1.1.1.1.1;
+    })) a first k.Store h (λ x c e. e) (λ c b. b)
 
     pub gep_rest : Some first ≡ the toks k.GetElementPtr a → Remains (instr toks) a gep_parts first (λ x. instr_is.GetElementPtr a x.0 x.1.0 x.1.1)
     gep_rest h = behind_token (λ x. instr_is.GetElementPtr x.0 x.1.0 x.1.1.0 x.1.1.1) a first k.GetElementPtr h (λ x c e. e) (λ c b. b)

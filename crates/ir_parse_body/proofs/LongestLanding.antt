@@ -18,7 +18,8 @@ use Rattle.ir_tree.proofs.Known.{Known, firsts, leaf_of, pair_of, choice_of, man
 use Rattle.ir_tree.proofs.ClearTypes.{ty_of}
 use Rattle.ir_tree.proofs.ClearConstants.{tconst_of}
 use Rattle.ir_tree.proofs.ClearInstructions.{clause_of, call_of}
-use Rattle.ir_parse_parts.proofs.Longest.{leaf_some, leaf_none, the_of_leaf, pair_some, pair_none, pair_stop, shape_some, shape_none, none_by, choice_none, not_begun}
+use Rattle.ir_parse_parts.proofs.Longest.{leaf_some, leaf_none, the_of_leaf, pair_some, pair_none, pair_stop, shape_some, shape_none, none_by, choice_none}
+use Rattle.ir_parse_parts.proofs.Longest.{not_begun}
 use Rattle.ir_parse_parts.proofs.LongestTypes.{the_moves}
 
 -- ---- one of two
@@ -42,15 +43,18 @@ module _ (toks : List Terminal) where
   abbrev clause_back : ℕ × Tconst → Clause
   clause_back x = record { word = x.0; value = x.1 }
 
-  pub clause_view : (t : Clause) (a b : ℕ) → clause toks t a ≡ Some b → (x : ℕ × Tconst) × ((clause_back x ≡ t) × (pair (leaf toks k.ClauseWord) (tconst toks) x a ≡ Some b))
+  pub clause_view : (t : Clause) (a b : ℕ) → clause toks t a ≡ Some b → (x : ℕ × Tconst) ×
+      ((clause_back x ≡ t) × (pair (leaf toks k.ClauseWord) (tconst toks) x a ≡ Some b))
   clause_view t a b e = ((t.word, t.value), (refl, e))
 
   module _ (a first : ℕ) (h : Some first ≡ the toks k.ClauseWord a) where
     pub clause_no_value : Longest (tconst toks) first None → Longest (clause toks) a None
-    clause_no_value n = shape_none (clause toks) clause_back clause_view (λ x a b e. e) (pair_none (leaf_of k.ClauseWord) (tconst_of toks) refl a first a (leaf_some toks k.ClauseWord a first h) n)
+    clause_no_value n = shape_none (clause toks) clause_back clause_view (λ x a b e. e) (pair_none (leaf_of k.ClauseWord) (tconst_of toks) refl a first a
+        (leaf_some toks k.ClauseWord a first h) n)
 
     pub clause_ends : (v : Tconst) (end : ℕ) → Longest (tconst toks) first (Some (v, end)) → Longest (clause toks) a (Some (clause_back (a, v), end))
-    clause_ends v end n = shape_some (clause toks) clause_back clause_view (λ x a b e. e) {x = (a, v)} (pair_some (leaf_of k.ClauseWord) (tconst_of toks) refl a first end a v (leaf_some toks k.ClauseWord a first h) n)
+    clause_ends v end n = shape_some (clause toks) clause_back clause_view (λ x a b e. e) {x =
+        (a, v)} (pair_some (leaf_of k.ClauseWord) (tconst_of toks) refl a first end a v (leaf_some toks k.ClauseWord a first h) n)
 
   pub clause_moves : (a n : ℕ) (t : Clause) → clause toks t a ≡ Some n → (a < n) × (a < length toks)
   clause_moves a n t e =
@@ -119,10 +123,12 @@ module _ (toks : List Terminal) where
 
   module _ (a first : ℕ) (h : Some first ≡ the toks k.LandingPad a) where
     -- no instruction that begins with one of other terminals is here
-    other : (set : List Terminal) → apart ((In set ∷ []) ∷ []) (firsts (k.LandingPad ∷ [])) ≡ true → (op b : ℕ) (rest : Step) → and_then (one_of toks set op a) rest ≡ Some b → ⊥
+    other : (set : List Terminal) → apart ((In set ∷ []) ∷ []) (firsts (k.LandingPad ∷ [])) ≡ true → (op b : ℕ) (rest : Step) →
+        and_then (one_of toks set op a) rest ≡ Some b → ⊥
     other set told op b rest e =
         let s = split (one_of toks set op a) rest b e in
-        at_clash toks ((In set ∷ []) ∷ []) (firsts (k.LandingPad ∷ [])) a told (moves toks ((In set ∷ []) ∷ []) a s.0 ((token_reads toks (In set) a).opens op s.0 s.1.0)).1 (here k.LandingPad a first h)
+        at_clash toks ((In set ∷ []) ∷ []) (firsts (k.LandingPad ∷ [])) a told
+        (moves toks ((In set ∷ []) ∷ []) a s.0 ((token_reads toks (In set) a).opens op s.0 s.1.0)).1 (here k.LandingPad a first h)
 
     -- from its word, an instruction is a landing pad
     begun : (t : Instr) (b : ℕ) → instr toks t a ≡ Some b → (x : ℕ × (Ty × Endings)) × ((landing_back x ≡ t) × (landing x a ≡ Some b))
@@ -147,13 +153,18 @@ module _ (toks : List Terminal) where
     landing_some x b l = (landing_fits x a ∙ l.0, λ t c e. let v = begun t c e in l.1 v.0 c v.1.1)
 
     pub landing_no_type : Longest (ty toks) first None → Longest (instr toks) a None
-    landing_no_type n = landing_none (pair_none (leaf_of k.LandingPad) typed_of refl a first a (leaf_some toks k.LandingPad a first h) (pair_stop (ty_of toks) endings_of first n))
+    landing_no_type n = landing_none (pair_none (leaf_of k.LandingPad) typed_of refl a first a (leaf_some toks k.LandingPad a first h)
+        (pair_stop (ty_of toks) endings_of first n))
 
     module _ (kind : Ty) (end : ℕ) (l : Longest (ty toks) first (Some (kind, end))) where
       ended : (x : Endings) (b : ℕ) → Longest endings end (Some (x, b)) → Longest (instr toks) a (Some (landing_back (a, (kind, x)), b))
-      ended x b n = landing_some (a, (kind, x)) b (pair_some (leaf_of k.LandingPad) typed_of refl a first b a (kind, x) (leaf_some toks k.LandingPad a first h) (pair_some (ty_of toks) endings_of refl first end b kind x l n))
+      ended x b n = landing_some (a, (kind, x)) b (pair_some (leaf_of k.LandingPad) typed_of refl a first b a (
+        kind,
+        x,
+      ) (leaf_some toks k.LandingPad a first h) (pair_some (ty_of toks) endings_of refl first end b kind x l n))
 
-      pub landing_cleans : (behind b : ℕ) (ts : List Clause) → Some behind ≡ the toks k.Cleanup end → Longest (many (clause toks)) behind (Some (ts, b)) → Longest (instr toks) a (Some (instr_is.Cleanup a kind end ts, b))
+      pub landing_cleans : (behind b : ℕ) (ts : List Clause) → Some behind ≡ the toks k.Cleanup end → Longest (many (clause toks)) behind (Some (ts, b)) →
+          Longest (instr toks) a (Some (instr_is.Cleanup a kind end ts, b))
       landing_cleans behind b ts h' n =
           ended (inl (end, ts)) b
           (choice_left cleaning (some (clause toks)) end b (end, ts)

@@ -69,39 +69,61 @@ module _ (toks : List Terminal) where
           pub operands_no_right : Longest (value toks) second None → Longest (operands toks) a None
           operands_no_right n = rest_none right_rest n
 
-          pub operands_end : (right : Value) (end : ℕ) → Longest (value toks) second (Some (right, end)) → Longest (operands toks) a (Some (record { ty = kind; left = left; right = right }, end))
+          pub operands_end : (right : Value) (end : ℕ) → Longest (value toks) second (Some (right, end)) →
+              Longest (operands toks) a (Some (record { ty = kind; left = left; right = right }, end))
           operands_end right end l = rest_some right_rest l
 
   -- ---- binop
-  module _ (a first : ℕ) (h : Some first ≡ any_of toks (k.ConstBinop ∷ k.Binop ∷ []) a) (flags : List ℕ) (place : ℕ) (flagged : Longest (many (iflag toks)) first (Some (flags, place))) where
+  module _ (a first : ℕ) (h : Some first ≡ any_of toks (k.ConstBinop ∷ k.Binop ∷ []) a) (flags : List ℕ) (place : ℕ)
+      (flagged : Longest (many (iflag toks)) first (Some (flags, place))) where
     binop_sides : Remains (instr toks) a (operands toks) place (λ x. instr_is.Binop a flags x.ty x.left x.right)
     binop_sides = then_rest (then_rest (binop_rest toks a first h) (pair_rest (many_of (iflag_of toks) refl) two_values_of refl flagged)) (sides_rest place)
 
     pub binop_no_operands : Longest (operands toks) place None → Longest (instr toks) a None
     binop_no_operands n = rest_none binop_sides n
 
-    pub binop_ends : (x : Sides) (end : ℕ) → Longest (operands toks) place (Some (x, end)) → Longest (instr toks) a (Some (instr_is.Binop a flags x.ty x.left x.right, end))
+    pub binop_ends : (x : Sides) (end : ℕ) → Longest (operands toks) place (Some (x, end)) →
+        Longest (instr toks) a (Some (instr_is.Binop a flags x.ty x.left x.right, end))
     binop_ends x end l = rest_some binop_sides l
 
   -- ---- icmp
   abbrev pred_part : Known toks false (pair (leaf toks k.Pred) (two_values toks))
   pred_part = pair_of (leaf_of k.Pred) two_values_of refl
 
-  module _ (a first : ℕ) (h : Some first ≡ the toks k.Icmp a) (flags : List ℕ) (pred : ℕ) (flagged : Longest (many (iflag toks)) first (Some (flags, pred))) where
-    pred_rest : Remains (instr toks) a (pair (leaf toks k.Pred) (two_values toks)) pred (λ x. instr_is.Icmp (record { op = a; flags = flags; pred = x.0; ty = x.1.0; left = x.1.1.0; right = x.1.1.1.1 }))
+  module _ (a first : ℕ) (h : Some first ≡ the toks k.Icmp a) (flags : List ℕ) (pred : ℕ) (flagged : Longest (many (iflag toks)) first (Some (
+    flags,
+    pred,
+  ))) where
+    pred_rest : Remains (instr toks) a (pair (leaf toks k.Pred) (two_values toks)) pred (λ x. instr_is.Icmp (record {
+      op = a;
+      flags = flags;
+      pred = x.0;
+      ty =
+          x.1.0;
+      left = x.1.1.0;
+      right = x.1.1.1.1;
+    }))
     pred_rest = then_rest (icmp_rest toks a first h) (pair_rest (many_of (iflag_of toks) refl) pred_part refl flagged)
 
     pub icmp_no_pred : None ≡ the toks k.Pred pred → Longest (instr toks) a None
     icmp_no_pred n = rest_none pred_rest (pair_stop (leaf_of k.Pred) two_values_of pred (leaf_none toks k.Pred pred n))
 
     module _ (place : ℕ) (h' : Some place ≡ the toks k.Pred pred) where
-      icmp_sides : Remains (instr toks) a (operands toks) place (λ x. instr_is.Icmp (record { op = a; flags = flags; pred = pred; ty = x.ty; left = x.left; right = x.right }))
+      icmp_sides : Remains (instr toks) a (operands toks) place (λ x. instr_is.Icmp (record {
+        op = a;
+        flags = flags;
+        pred = pred;
+        ty = x.ty;
+        left = x.left;
+        right = x.right;
+      }))
       icmp_sides = then_rest (then_rest pred_rest (pair_rest (leaf_of k.Pred) two_values_of refl (leaf_some toks k.Pred pred place h'))) (sides_rest place)
 
       pub icmp_no_operands : Longest (operands toks) place None → Longest (instr toks) a None
       icmp_no_operands n = rest_none icmp_sides n
 
-      pub icmp_ends : (x : Sides) (end : ℕ) → Longest (operands toks) place (Some (x, end)) → Longest (instr toks) a (Some (instr_is.Icmp (record { op = a; flags = flags; pred = pred; ty = x.ty; left = x.left; right = x.right }), end))
+      pub icmp_ends : (x : Sides) (end : ℕ) → Longest (operands toks) place (Some (x, end)) →
+          Longest (instr toks) a (Some (instr_is.Icmp (record { op = a; flags = flags; pred = pred; ty = x.ty; left = x.left; right = x.right }), end))
       icmp_ends x end l = rest_some icmp_sides l
 
   -- ---- cast
@@ -111,7 +133,8 @@ module _ (toks : List Terminal) where
   abbrev of_part : Known toks false (pair (tvalue toks) (pair (λ (_ : Unit {0}). the toks k.To) (ty toks)))
   of_part = pair_of (tvalue_of toks) to_part refl
 
-  module _ (a first : ℕ) (h : Some first ≡ any_of toks (k.ConstCast ∷ k.Cast ∷ []) a) (flags : List ℕ) (place : ℕ) (flagged : Longest (many (iflag toks)) first (Some (flags, place))) where
+  module _ (a first : ℕ) (h : Some first ≡ any_of toks (k.ConstCast ∷ k.Cast ∷ []) a) (flags : List ℕ) (place : ℕ)
+      (flagged : Longest (many (iflag toks)) first (Some (flags, place))) where
     of_rest : Remains (instr toks) a (pair (tvalue toks) (pair (λ (_ : Unit {0}). the toks k.To) (ty toks))) place (λ x. instr_is.Cast a flags x.0 x.1.1)
     of_rest = then_rest (cast_rest toks a first h) (pair_rest (many_of (iflag_of toks) refl) of_part refl flagged)
 
@@ -151,11 +174,18 @@ module _ (toks : List Terminal) where
     select_no_first n = rest_none (select_rest toks a first h) (pair_stop (tvalue_of toks) yes_part first n)
 
     module _ (on : Tvalue) (second : ℕ) (valued : Longest (tvalue toks) first (Some (on, second))) where
-      yes_rest : Remains (instr toks) a (pair (comma toks) (pair (tvalue toks) (pair (comma toks) (tvalue toks)))) second (λ x. instr_is.Select (record { op = a; on = on; yes = x.1.0; no = x.1.1.1 }))
+      yes_rest : Remains (instr toks) a (pair (comma toks) (pair (tvalue toks) (pair (comma toks) (tvalue toks)))) second (λ x. instr_is.Select (record {
+        op =
+            a;
+        on = on;
+        yes = x.1.0;
+        no = x.1.1.1;
+      }))
       yes_rest = then_rest (select_rest toks a first h) (pair_rest (tvalue_of toks) yes_part refl valued)
 
       pub select_no_second : Longest (next toks (tvalue toks)) second None → Longest (instr toks) a None
-      select_no_second n = rest_none (then_rest yes_rest (comma_rest toks (tvalue toks) (pair (comma toks) (tvalue toks)) second)) (pair_stop (next_of (tvalue_of toks)) no_part second n)
+      select_no_second n = rest_none (then_rest yes_rest (comma_rest toks (tvalue toks) (pair (comma toks) (tvalue toks)) second))
+          (pair_stop (next_of (tvalue_of toks)) no_part second n)
 
       module _ (yes : Tvalue) (third : ℕ) (valued' : Longest (next toks (tvalue toks)) second (Some (yes, third))) where
         no_rest : Remains (instr toks) a (next toks (tvalue toks)) third (λ x. instr_is.Select (record { op = a; on = on; yes = yes; no = x }))
@@ -164,7 +194,8 @@ module _ (toks : List Terminal) where
         pub select_no_third : Longest (next toks (tvalue toks)) third None → Longest (instr toks) a None
         select_no_third n = rest_none no_rest n
 
-        pub select_ends : (other : Tvalue) (end : ℕ) → Longest (next toks (tvalue toks)) third (Some (other, end)) → Longest (instr toks) a (Some (instr_is.Select (record { op = a; on = on; yes = yes; no = other }), end))
+        pub select_ends : (other : Tvalue) (end : ℕ) → Longest (next toks (tvalue toks)) third (Some (other, end)) →
+            Longest (instr toks) a (Some (instr_is.Select (record { op = a; on = on; yes = yes; no = other }), end))
         select_ends other end l = rest_some no_rest l
 
   -- ---- freeze
@@ -186,17 +217,24 @@ module _ (toks : List Terminal) where
   value_part = pair_of (value_of toks) comma_part refl
 
   module _ (a first : ℕ) (h : Some first ≡ the toks k.LeftBracket a) where
-    value_rest : Remains (arm toks) a (pair (value toks) (pair (comma toks) (pair (leaf toks k.Local) (λ (_ : Unit {0}). the toks k.RightBracket)))) first (λ x. record { value = x.0; from = x.1.1.0 })
+    value_rest : Remains (arm toks) a (pair (value toks) (pair (comma toks) (pair (leaf toks k.Local) (λ (_ : Unit {0}). the toks k.RightBracket)))) first
+        (λ x. record { value = x.0; from = x.1.1.0 })
     value_rest = then_rest arm_rest (pair_rest (the_of k.LeftBracket) value_part refl (the_some toks k.LeftBracket a first h))
       where
-        arm_rest : Remains (arm toks) a (pair (λ (_ : Unit {0}). the toks k.LeftBracket) (pair (value toks) (pair (comma toks) (pair (leaf toks k.Local) (λ (_ : Unit {0}). the toks k.RightBracket))))) a (λ x. record { value = x.1.0; from = x.1.1.1.0 })
+        arm_rest : Remains (arm toks) a
+            (pair (λ (_ : Unit {0}). the toks k.LeftBracket)
+            (pair (value toks) (pair (comma toks) (pair (leaf toks k.Local) (λ (_ : Unit {0}). the toks k.RightBracket))))) a (λ x. record {
+              value = x.1.0;
+              from = x.1.1.1.0;
+            })
         arm_rest = record { fits = λ x c e. e; only = λ x c e. ((tt, (x.value, (tt, (x.from, tt)))), e) }
 
     pub arm_no_value : Longest (value toks) first None → Longest (arm toks) a None
     arm_no_value n = rest_none value_rest (pair_stop (value_of toks) comma_part first n)
 
     module _ (of : Value) (place : ℕ) (valued : Longest (value toks) first (Some (of, place))) where
-      behind_value : Remains (arm toks) a (pair (comma toks) (pair (leaf toks k.Local) (λ (_ : Unit {0}). the toks k.RightBracket))) place (λ x. record { value = of; from = x.1.0 })
+      behind_value : Remains (arm toks) a (pair (comma toks) (pair (leaf toks k.Local) (λ (_ : Unit {0}). the toks k.RightBracket))) place
+          (λ x. record { value = of; from = x.1.0 })
       behind_value = then_rest value_rest (pair_rest (value_of toks) comma_part refl valued)
 
       pub arm_no_comma : None ≡ the toks k.Comma place → Longest (arm toks) a None
@@ -226,7 +264,8 @@ module _ (toks : List Terminal) where
   pub arms_none : (a : ℕ) → Longest (arm toks) a None → Longest (listed toks (arm toks)) a None
   arms_none a n = listed_none toks (arm toks) a n
 
-  pub arms_all : (a m b : ℕ) (t : Arm) (ts : List Arm) → Longest (arm toks) a (Some (t, m)) → Longest (many (next toks (arm toks))) m (Some (ts, b)) → Longest (listed toks (arm toks)) a (Some (t ∷ ts, b))
+  pub arms_all : (a m b : ℕ) (t : Arm) (ts : List Arm) → Longest (arm toks) a (Some (t, m)) → Longest (many (next toks (arm toks))) m (Some (ts, b)) →
+      Longest (listed toks (arm toks)) a (Some (t ∷ ts, b))
   arms_all a m b t ts l rest = listed_some (arm_of toks) refl a m b t ts l rest
 
   module _ (a first : ℕ) (h : Some first ≡ the toks k.Phi a) where
@@ -240,7 +279,8 @@ module _ (toks : List Terminal) where
       pub phi_no_arms : Longest (listed toks (arm toks)) place None → Longest (instr toks) a None
       phi_no_arms n = rest_none arms_rest n
 
-      pub phi_ends : (arms : List Arm) (end : ℕ) → Longest (listed toks (arm toks)) place (Some (arms, end)) → Longest (instr toks) a (Some (instr_is.Phi a kind arms, end))
+      pub phi_ends : (arms : List Arm) (end : ℕ) → Longest (listed toks (arm toks)) place (Some (arms, end)) →
+          Longest (instr toks) a (Some (instr_is.Phi a kind arms, end))
       phi_ends arms end l = rest_some arms_rest l
 
   -- ---- getelementptr
@@ -253,7 +293,8 @@ module _ (toks : List Terminal) where
   abbrev elem_part : Known toks false (pair (ty toks) (some (next toks (tvalue toks))))
   elem_part = pair_of (ty_of toks) operands_part refl
 
-  module _ (a first : ℕ) (h : Some first ≡ the toks k.GetElementPtr a) (flags : List Gepflag) (place : ℕ) (flagged : Longest (many (gepflag toks)) first (Some (flags, place))) where
+  module _ (a first : ℕ) (h : Some first ≡ the toks k.GetElementPtr a) (flags : List Gepflag) (place : ℕ)
+      (flagged : Longest (many (gepflag toks)) first (Some (flags, place))) where
     elem_rest : Remains (instr toks) a (pair (ty toks) (some (next toks (tvalue toks)))) place (λ x. instr_is.GetElementPtr a flags x.0 x.1)
     elem_rest = then_rest (gep_rest toks a first h) (pair_rest (many_of (gepflag_known toks) refl) elem_part refl flagged)
 
@@ -267,5 +308,6 @@ module _ (toks : List Terminal) where
       pub gep_no_operands : Longest (some (next toks (tvalue toks))) after None → Longest (instr toks) a None
       gep_no_operands n = rest_none operands_rest n
 
-      pub gep_ends : (operands : List Tvalue) (end : ℕ) → Longest (some (next toks (tvalue toks))) after (Some (operands, end)) → Longest (instr toks) a (Some (instr_is.GetElementPtr a flags elem operands, end))
+      pub gep_ends : (operands : List Tvalue) (end : ℕ) → Longest (some (next toks (tvalue toks))) after (Some (operands, end)) →
+          Longest (instr toks) a (Some (instr_is.GetElementPtr a flags elem operands, end))
       gep_ends operands end l = rest_some operands_rest l

@@ -30,7 +30,8 @@ module _ {T U : Type 0} {p : T → Step} {a : ℕ} {q : U → Step} {b : ℕ} {m
   }
 
 -- ---- one behind the other
-module _ {toks : List Terminal} {T U : Type 0} {p : T → Step} {q : U → Step} {empty : Bool} (of_p : Known toks empty p) (of_q : Known toks false q) (told : apart of_p.more of_q.first ≡ true) where
+module _ {toks : List Terminal} {T U : Type 0} {p : T → Step} {q : U →
+    Step} {empty : Bool} (of_p : Known toks empty p) (of_q : Known toks false q) (told : apart of_p.more of_q.first ≡ true) where
   -- the first part of each tree is the longest there
   first_longest : (a n m c : ℕ) (t t' : T) (u : U) → Longest p a (Some (t, n)) → p t' a ≡ Some m → q u m ≡ Some c → m ≡ n
   first_longest a n m c t t' u l et eu =
@@ -52,19 +53,23 @@ module _ {toks : List Terminal} {T U : Type 0} {p : T → Step} {q : U → Step}
 
 -- ---- behind a comma
 -- a comma with a tree, and then the rest
-pub comma_rest : (toks : List Terminal) {T U : Type 0} (p : T → Step) (q : U → Step) (a : ℕ) → Remains (pair (λ (_ : Unit {0}). the toks k.Comma) (pair p q)) a (pair (next toks p) q) a (λ y. (tt, y))
+pub comma_rest : (toks : List Terminal) {T U : Type 0} (p : T → Step) (q : U → Step) (a : ℕ) →
+    Remains (pair (λ (_ : Unit {0}). the toks k.Comma) (pair p q)) a (pair (next toks p) q) a (λ y. (tt, y))
 comma_rest toks p q a = record {
   fits = λ y c e. sym (then_then (the toks k.Comma a) (p y.0) (q y.1)) ∙ e;
   only = λ y c e. (y.1, then_then (the toks k.Comma a) (p y.1.0) (q y.1.1) ∙ e);
 }
 
-module _ {toks : List Terminal} {T U : Type 0} {p : T → Step} {q : U → Step} (of_p : Known toks false p) (of_q : Known toks false q) (told : apart of_p.more of_q.first ≡ true) where
+module _ {toks : List Terminal} {T U : Type 0} {p : T → Step} {q : U →
+    Step} (of_p : Known toks false p) (of_q : Known toks false q) (told : apart of_p.more of_q.first ≡ true) where
   -- the rest behind a comma and a tree
-  pub next_rest : {a n : ℕ} {t : T} → Longest (next toks p) a (Some (t, n)) → Remains (pair (λ (_ : Unit {0}). the toks k.Comma) (pair p q)) a q n (λ u. (tt, (t, u)))
+  pub next_rest : {a n : ℕ} {t : T} → Longest (next toks p) a (Some (t, n)) →
+      Remains (pair (λ (_ : Unit {0}). the toks k.Comma) (pair p q)) a q n (λ u. (tt, (t, u)))
   next_rest {a} l = then_rest (comma_rest toks p q a) (pair_rest (next_of of_p) of_q told l)
 
 -- a tree behind a comma ends behind the comma, within the tokens
-pub next_ends : {toks : List Terminal} {T : Type 0} {p : T → Step} → Known toks false p → (a n : ℕ) (t : T) → Longest (next toks p) a (Some (t, n)) → (a < n) × (n ≤ length toks)
+pub next_ends : {toks : List Terminal} {T : Type 0} {p : T → Step} → Known toks false p → (a n : ℕ) (t : T) → Longest (next toks p) a (Some (t, n)) → (a < n) ×
+    (n ≤ length toks)
 next_ends {toks} {p = p} of_p a n t l =
     let s = split (the toks k.Comma a) (p t) n l.0 in
     ((moves toks (next_of of_p).first a n (((next_of of_p).at a).opens t n l.0)).0, (of_p.at s.0).within t n s.1.1 (the_moves toks k.Comma a s.0 s.1.0).1)

@@ -1,25 +1,29 @@
 -- The longest tree of a production from what was read of its parts: a token before them or behind them, one of two productions, and
 -- a tree made of them.
-use Rattle.std.proofs.Common.{◌≡◌, ℕ, suc, ◌<◌, ◌≤◌, Bool, true, false, ◌&&◌, List, [], ◌∷◌, length, Option, None, Some, ◌⊎◌, inl, inr, ⊎_elim, refl, sym, ap, ◌∙◌, subst, arith}
+use Rattle.std.proofs.Common.{◌≡◌, ℕ, suc, ◌≤◌, Bool, true, false, ◌&&◌, List, [], ◌∷◌, Option, None, Some, ◌⊎◌, inl, inr, ⊎_elim, refl, sym, ap, ◌∙◌, subst}
+use Rattle.std.proofs.Common.{arith}
 use Rattle.ir_tree.specs.declared.terminal.Terminal.{Terminal}
 use Rattle.ir_tree.specs.Steps.{Step, ◌⨾◌, stands, when, unless, the, leaf, where_not, Longest}
-use Rattle.std.specs.List.{list_all}
-use Rattle.ir_tree.proofs.Looks.{Look, passes, At, apart, falls, seen_within}
-use Rattle.ir_tree.proofs.Clear.{pair, choice, split, some_same, when_true, unless_false, moves}
+use Rattle.ir_tree.proofs.Looks.{At, apart}
+use Rattle.ir_tree.proofs.Clear.{pair, choice, split, some_same, when_true, unless_false}
 use Rattle.ir_tree.proofs.Known.{Known, firsts, leaf_of, the_of, pair_of, shape_of}
 use Rattle.ir_parse_parts.proofs.Longest.{turned, nothing, taken, leaf_some, the_some, the_none, pair_some, pair_none}
 
 -- ---- what was read, made into another tree
-pub twice : {T U V : Type 0} (p : V → Step) (f : U → V) (g : T → U) (a : ℕ) (r : Option (T × ℕ)) → Longest p a (turned f (turned g r)) → Longest p a (turned (λ x. f (g x)) r)
+pub twice : {T U V : Type 0} (p : V → Step) (f : U → V) (g : T → U) (a : ℕ) (r : Option (T × ℕ)) → Longest p a (turned f (turned g r)) →
+    Longest p a (turned (λ x. f (g x)) r)
 twice p f g a None l = l
 twice p f g a (Some x) l = l
 
 -- a production by its shape
-pub shaped : {T X : Type 0} (p : T → Step) (q : X → Step) (a : ℕ) (back : X → T) → ((t : T) (b : ℕ) → p t a ≡ Some b → (x : X) × ((back x ≡ t) × (q x a ≡ Some b))) → ((x : X) → p (back x) a ≡ q x a) → (r : Option (X × ℕ)) → Longest q a r → Longest p a (turned back r)
+pub shaped : {T X : Type 0} (p : T → Step) (q : X → Step) (a : ℕ) (back : X → T) →
+    ((t : T) (b : ℕ) → p t a ≡ Some b → (x : X) × ((back x ≡ t) × (q x a ≡ Some b))) → ((x : X) → p (back x) a ≡ q x a) → (r : Option (X × ℕ)) → Longest q a r →
+    Longest p a (turned back r)
 shaped p q a back view unview None l = λ t c e. let v = view t c e in l v.0 c v.1.1
 shaped p q a back view unview (Some x) l = (unview x.0 ∙ l.0, λ t c e. let v = view t c e in l.1 v.0 c v.1.1)
 
-module _ {toks : List Terminal} {T U : Type 0} {p : T → Step} {q : U → Step} {e : Bool} (of_p : Known toks e p) (of_q : Known toks false q) (told : apart of_p.more of_q.first ≡ true) where
+module _ {toks : List Terminal} {T U : Type 0} {p : T → Step} {q : U →
+    Step} {e : Bool} (of_p : Known toks e p) (of_q : Known toks false q) (told : apart of_p.more of_q.first ≡ true) where
   -- what comes behind a tree decides
   pub pair_by : (a n : ℕ) (t : T) → Longest p a (Some (t, n)) → (r : Option (U × ℕ)) → Longest q n r → Longest (pair p q) a (turned (λ u. (t, u)) r)
   pair_by a n t lp None l = pair_none of_p of_q told a n t lp l
@@ -68,7 +72,8 @@ module _ (toks : List Terminal) (k : Terminal) where
   abbrev pub after_of : {T : Type 0} {p : T → Step} → Known toks false p → Known toks false (after toks k p)
   after_of {T} of_p = shape_of (λ (x : Unit {0} × T). x.1) (λ t a b e. ((tt, t), (refl, e))) (pair_of (the_of k) of_p refl)
 
-  abbrev pub before_of : {T : Type 0} {p : T → Step} {e : Bool} → (of_p : Known toks e p) → apart of_p.more (firsts (k ∷ [])) ≡ true → Known toks (e && false) (before toks k p)
+  abbrev pub before_of : {T : Type 0} {p : T → Step} {e : Bool} → (of_p : Known toks e p) → apart of_p.more (firsts (k ∷ [])) ≡ true →
+      Known toks (e && false) (before toks k p)
   before_of {T} of_p told = shape_of (λ (x : T × Unit {0}). x.0) (λ t a b e. ((t, tt), (refl, e))) (pair_of of_p (the_of k) told)
 
   pub seen : (a b : ℕ) → Some b ≡ the toks k a → At toks (firsts (k ∷ [])) a
@@ -79,16 +84,22 @@ module _ (toks : List Terminal) (k : Terminal) where
 
   pub after_by : {T : Type 0} (p : T → Step) (a b : ℕ) → Some b ≡ the toks k a → (r : Option (T × ℕ)) → Longest p b r → Longest (after toks k p) a r
   after_by p a b h None l = λ u c e. let s = split (the toks k a) (p u) c e in l u c (subst (λ z. p u z ≡ Some c) (some_same s.0 b (sym s.1.0 ∙ sym h)) s.1.1)
-  after_by p a b h (Some x) l = (taken (the toks k a) b (p x.0) (Some x.1) (sym h) l.0, λ u c e. let s = split (the toks k a) (p u) c e in l.1 u c (subst (λ z. p u z ≡ Some c) (some_same s.0 b (sym s.1.0 ∙ sym h)) s.1.1))
+  after_by p a b h (Some x) l = (
+    taken (the toks k a) b (p x.0) (Some x.1) (sym h) l.0,
+    λ u c e. let s = split (the toks k a) (p u) c e in
+        l.1 u c (subst (λ z. p u z ≡ Some c) (some_same s.0 b (sym s.1.0 ∙ sym h)) s.1.1),
+  )
 
   pub after_none : {T : Type 0} (p : T → Step) (a : ℕ) → None ≡ the toks k a → Longest (after toks k p) a None
   after_none p a h = λ u c e. let s = split (the toks k a) (p u) c e in nothing s.0 (h ∙ s.1.0)
 
   -- a leaf, and what is behind it
-  pub led_by : {T : Type 0} {p : T → Step} (of_p : Known toks false p) (a b : ℕ) → Some b ≡ the toks k a → (r : Option (T × ℕ)) → Longest p b r → Longest (pair (leaf toks k) p) a (turned (λ t. (a, t)) r)
+  pub led_by : {T : Type 0} {p : T → Step} (of_p : Known toks false p) (a b : ℕ) → Some b ≡ the toks k a → (r : Option (T × ℕ)) → Longest p b r →
+      Longest (pair (leaf toks k) p) a (turned (λ t. (a, t)) r)
   led_by of_p a b h r l = pair_by (leaf_of k) of_p refl a b a (leaf_some toks k a b h) r l
 
-  module _ {T : Type 0} {p : T → Step} {e : Bool} (of_p : Known toks e p) (told : apart of_p.more (firsts (k ∷ [])) ≡ true) (a n : ℕ) (t : T) (l : Longest p a (Some (t, n))) where
+  module _ {T : Type 0} {p : T → Step} {e : Bool} (of_p : Known toks e p) (told : apart of_p.more (firsts (k ∷ [])) ≡ true) (a n : ℕ) (t : T)
+      (l : Longest p a (Some (t, n))) where
     pub before_some : (b : ℕ) → Some b ≡ the toks k n → Longest (before toks k p) a (Some (t, b))
     before_some b h = let both = pair_some of_p (the_of k) told a n b t tt l (the_some toks k n b h) in (both.0, λ u c e. both.1 (u, tt) c e)
 
@@ -96,26 +107,7 @@ module _ (toks : List Terminal) (k : Terminal) where
     before_none h = let both = pair_none of_p (the_of k) told a n t l (the_none toks k n h) in λ u c e. both (u, tt) c e
 
   -- a step that is barred where the token stands
-  pub unbarred : {T : Type 0} (p : T → Step) (a : ℕ) → None ≡ the toks k a → (r : Option (T × ℕ)) → Longest p a r → Longest (λ t. where_not (stands toks k) (p t)) a r
+  pub unbarred : {T : Type 0} (p : T → Step) (a : ℕ) → None ≡ the toks k a → (r : Option (T × ℕ)) → Longest p a r →
+      Longest (λ t. where_not (stands toks k) (p t)) a r
   unbarred p a h None l = λ u c e. l u c (unless_false (stands toks k a) (p u a) c e).1
   unbarred p a h (Some x) l = (ap (λ z. unless z (p x.0 a)) (stands_not a h) ∙ l.0, λ u c e. l.1 u c (unless_false (stands toks k a) (p u a) c e).1)
-
--- ---- how far trees reach
--- the tests ask for a token
-abbrev pub asks : Look → Bool
-asks [] = false
-asks (x ∷ look) = true
-
--- where one of the tests is met, a token is
-at_within : (toks : List Terminal) (looks : List Look) (a : ℕ) → list_all asks looks ≡ true → At toks looks a → a < length toks
-at_within toks [] a told h = absurd h
-at_within toks ([] ∷ looks) a told h = absurd (falls told)
-at_within toks ((x ∷ look) ∷ looks) a told h = ⊎_elim (λ here. seen_within toks (passes x) a here.0) (λ later. at_within toks looks a told later) h
-
-module _ {toks : List Terminal} {T : Type 0} {p : T → Step} (of_p : Known toks false p) where
-  -- a tree that fits has a token, and ends within the tokens
-  pub ends : list_all asks of_p.first ≡ true → (a n : ℕ) (t : T) → Longest p a (Some (t, n)) → (a < n) × (n ≤ length toks)
-  ends told a n t l =
-      let m = moves toks of_p.first a n ((of_p.at a).opens t n l.0) in
-      let inside : a < length toks = at_within toks of_p.first a told m.1 in
-      (m.0, (of_p.at a).within t n l.0 (omega (arith, inside)))

@@ -1,5 +1,6 @@
 -- The longest tree of a production from the longest of its parts.
-use Rattle.std.proofs.Common.{◌≡◌, ℕ, suc, ◌<◌, ◌≤◌, Bool, true, false, ◌&&◌, ◌||◌, List, [], ◌∷◌, ◌++◌, length, map, Option, None, Some, ◌⊎◌, inl, inr, ⊎_elim, refl, sym, ap, ◌∙◌, subst, eqb, eq-eqb, arith}
+use Rattle.std.proofs.Common.{◌≡◌, ℕ, suc, ◌<◌, ◌≤◌, Bool, true, false, ◌&&◌, ◌||◌, List, [], ◌∷◌, ◌++◌, length, map, Option, None, Some, ◌⊎◌, inl, inr, ⊎_elim}
+use Rattle.std.proofs.Common.{refl, sym, ap, ◌∙◌, subst, eqb, eq-eqb, arith}
 use Rattle.std.specs.List.{list_all}
 use Rattle.ir_tree.specs.declared.terminal.Terminal.{Terminal}
 use Rattle.ir_tree.specs.declared.terminal.Terminal.TheVariants.{Comma}
@@ -18,7 +19,8 @@ abbrev pub turned : {T U : Type 0} → (T → U) → Option (T × ℕ) → Optio
 turned f None = None
 turned f (Some x) = Some (f x.0, x.1)
 
-module _ {toks : List Terminal} {T U : Type 0} {p : T → Step} {q : U → Step} {e e' : Bool} (of_p : Known toks e p) (of_q : Known toks e' q) (told : apart of_p.more of_q.first ≡ true) where
+module _ {toks : List Terminal} {T U : Type 0} {p : T → Step} {q : U →
+    Step} {e e' : Bool} (of_p : Known toks e p) (of_q : Known toks e' q) (told : apart of_p.more of_q.first ≡ true) where
   -- where the first part is shorter than its longest, the second part is nothing
   q_short : (a m n c : ℕ) (t t' : T) (u : U) → Longest p a (Some (t, n)) → p t' a ≡ Some m → q u m ≡ Some c → ((m ≡ n) ⊎ ((c ≡ m) × (m < n)))
   q_short a m n c t t' u long et eu =
@@ -45,7 +47,8 @@ module _ {toks : List Terminal} {T U : Type 0} {p : T → Step} {q : U → Step}
           (λ h. omega (arith, h.0, h.1, up))
           (q_short a s.0 n d t y.0 y.1 lp s.1.0 s.1.1)
 
-module _ {toks : List Terminal} {T U : Type 0} {p : T → Step} {q : U → Step} {e : Bool} (of_p : Known toks e p) (of_q : Known toks false q) (told : apart of_p.more of_q.first ≡ true) where
+module _ {toks : List Terminal} {T U : Type 0} {p : T → Step} {q : U →
+    Step} {e : Bool} (of_p : Known toks e p) (of_q : Known toks false q) (told : apart of_p.more of_q.first ≡ true) where
   pub pair_none : (a n : ℕ) (t : T) → Longest p a (Some (t, n)) → Longest q n None → Longest (pair p q) a None
   pair_none a n t lp lq = λ y d ey.
       let s = split (p y.0 a) (q y.1) d ey in
@@ -60,7 +63,8 @@ module _ {toks : List Terminal} {T U : Type 0} {p : T → Step} {q : U → Step}
   pair_stop a lp = λ y d ey. let s = split (p y.0 a) (q y.1) d ey in lp y.0 s.0 s.1.0
 
 -- a production by its shape
-module _ {T X : Type 0} {q : X → Step} {a : ℕ} (p : T → Step) (back : X → T) (view : (t : T) (a b : ℕ) → p t a ≡ Some b → (x : X) × ((back x ≡ t) × (q x a ≡ Some b))) (unview : (x : X) (a b : ℕ) → q x a ≡ Some b → p (back x) a ≡ Some b) where
+module _ {T X : Type 0} {q : X → Step} {a : ℕ} (p : T → Step) (back : X → T) (view : (t : T) (a b : ℕ) → p t a ≡ Some b → (x : X) ×
+    ((back x ≡ t) × (q x a ≡ Some b))) (unview : (x : X) (a b : ℕ) → q x a ≡ Some b → p (back x) a ≡ Some b) where
   pub shape_some : {x : X} {b : ℕ} → Longest q a (Some (x, b)) → Longest p a (Some (back x, b))
   shape_some {x} {b} l = (unview x a b l.0, λ t c e. let v = view t a c e in l.1 v.0 c v.1.1)
 
@@ -153,9 +157,11 @@ module _ {T U : Type 0} (p : T → Step) (q : U → Step) (a : ℕ) where
       go (inl t) c e = lp t c e
       go (inr u) c e = lq u c e
 
-module _ {toks : List Terminal} {T U : Type 0} {p : T → Step} {q : U → Step} (of_p : Known toks false p) (of_q : Known toks false q) (told : apart of_p.first of_q.first ≡ true) (a n : ℕ) where
+module _ {toks : List Terminal} {T U : Type 0} {p : T → Step} {q : U →
+    Step} (of_p : Known toks false p) (of_q : Known toks false q) (told : apart of_p.first of_q.first ≡ true) (a n : ℕ) where
   pub not_both : (t : T) (u : U) (b c : ℕ) → p t a ≡ Some b → q u a ≡ Some c → ⊥
-  not_both t u b c et eu = at_clash toks of_p.first of_q.first a told (moves toks of_p.first a b ((of_p.at a).opens t b et)).1 (moves toks of_q.first a c ((of_q.at a).opens u c eu)).1
+  not_both t u b c et eu = at_clash toks of_p.first of_q.first a told (moves toks of_p.first a b ((of_p.at a).opens t b et)).1
+      (moves toks of_q.first a c ((of_q.at a).opens u c eu)).1
 
   pub choice_left : (t : T) → Longest p a (Some (t, n)) → Longest (choice p q) a (Some (inl t, n))
   choice_left t l = (l.0, go)
@@ -172,7 +178,8 @@ module _ {toks : List Terminal} {T U : Type 0} {p : T → Step} {q : U → Step}
       go (inr t) c e = l.1 t c e
 
 -- ---- one or none
-pub optional_some : {toks : List Terminal} {T : Type 0} {p : T → Step} (of_p : Known toks false p) (a n : ℕ) (t : T) → Longest p a (Some (t, n)) → Longest (optional p) a (Some (Some t, n))
+pub optional_some : {toks : List Terminal} {T : Type 0} {p : T → Step} (of_p : Known toks false p) (a n : ℕ) (t : T) → Longest p a (Some (t, n)) →
+    Longest (optional p) a (Some (Some t, n))
 optional_some {toks} {T} {p} of_p a n t l = (l.0, go)
   where
     up : a < n
@@ -190,7 +197,8 @@ optional_none {T} p a l = (refl, go)
     go (Some u) c e = absurd (l u c e)
 
 -- no tree of a production is where none of its first tokens is
-pub not_begun : {toks : List Terminal} {T : Type 0} {p : T → Step} {first more : List Look} {a : ℕ} → Reads toks p first more false a → (looks : List Look) → apart first looks ≡ true → At toks looks a → Longest p a None
+pub not_begun : {toks : List Terminal} {T : Type 0} {p : T → Step} {first more : List Look} {a : ℕ} → Reads toks p first more false a → (looks : List Look) →
+    apart first looks ≡ true → At toks looks a → Longest p a None
 not_begun {toks} {first = first} {a = a} r looks told h = λ t c e. at_clash toks first looks a told (moves toks first a c (r.opens t c e)).1 h
 
 -- the look asks for a token
@@ -209,14 +217,16 @@ begun_within toks (look ∷ looks) a all h =
     ⊎_elim (λ first. asked_within toks look a parts.0 first) (λ later. begun_within toks looks a parts.1 later) h
 
 -- a tree that is not empty ends behind its place, within the tokens
-pub ends : {toks : List Terminal} {T : Type 0} {p : T → Step} (of_p : Known toks false p) → list_all asks of_p.first ≡ true → (a n : ℕ) (t : T) → Longest p a (Some (t, n)) → (a < n) × (n ≤ length toks)
+pub ends : {toks : List Terminal} {T : Type 0} {p : T → Step} (of_p : Known toks false p) → list_all asks of_p.first ≡ true → (a n : ℕ) (t : T) →
+    Longest p a (Some (t, n)) → (a < n) × (n ≤ length toks)
 ends {toks} of_p all a n t l =
     let m = moves toks of_p.first a n ((of_p.at a).opens t n l.0) in
     let inside : a < length toks = begun_within toks of_p.first a all m.1 in
     (m.0, (of_p.at a).within t n l.0 (omega (arith, inside)))
 
 -- where a longer tree cannot go on, a tree that fits is the longest
-pub longest_by : {toks : List Terminal} {T : Type 0} {p : T → Step} {first more : List Look} {empty : Bool} {a : ℕ} → Reads toks p first more empty a → (t : T) (n : ℕ) → p t a ≡ Some n → (At toks more n → ⊥) → Longest p a (Some (t, n))
+pub longest_by : {toks : List Terminal} {T : Type 0} {p : T → Step} {first more : List Look} {empty : Bool} {a : ℕ} → Reads toks p first more empty a →
+    (t : T) (n : ℕ) → p t a ≡ Some n → (At toks more n → ⊥) → Longest p a (Some (t, n))
 longest_by {toks} {p = p} {more = more} {a = a} r t n fits stop = (
   fits,
   λ u c e.
@@ -251,21 +261,26 @@ reached_all {T} p a b ts h stop = (h.0, λ us c e. ⊎_elim (λ less. less) (λ 
 
 module _ {toks : List Terminal} {T : Type 0} {p : T → Step} (of_p : Known toks false p) (told : apart of_p.more of_p.first ≡ true) where
   pub reached_next : (a b d : ℕ) (ts : List T) (t : T) → Reached p a ts b → Longest p b (Some (t, d)) → Reached p a (ts ++ t ∷ []) d
-  reached_next a b d ts t h long = (many_append p ts (t ∷ []) a ∙ taken (many p ts a) b (many p (t ∷ [])) (Some d) h.0 (taken (p t b) d Some (Some d) long.0 refl), λ us c e. ⊎_elim (λ less. inl (omega (arith, less, up))) (λ on. go c on.0 on.1) (h.1 us c e))
+  reached_next a b d ts t h long = (
+    many_append p ts (t ∷ []) a ∙ taken (many p ts a) b (many p (t ∷ [])) (Some d) h.0 (taken (p t b) d Some (Some d) long.0 refl),
+    λ us c e. ⊎_elim (λ less. inl (omega (arith, less, up))) (λ on. go c on.0 on.1) (h.1 us c e),
+  )
     where
       up : b < d
       up = (moves toks of_p.first b d ((of_p.at b).opens t d long.0)).0
 
       short : (m c : ℕ) (rest : List T) → At toks of_p.more m → many p rest m ≡ Some c → c ≡ m
       short m c [] at' e = sym (some_same m c e)
-      short m c (u ∷ rest) at' e = let s = split (p u m) (many p rest) c e in absurd (at_clash toks of_p.more of_p.first m told at' (moves toks of_p.first m s.0 ((of_p.at m).opens u s.0 s.1.0)).1)
+      short m c (u ∷ rest) at' e = let s = split (p u m) (many p rest) c e in
+          absurd (at_clash toks of_p.more of_p.first m told at' (moves toks of_p.first m s.0 ((of_p.at m).opens u s.0 s.1.0)).1)
 
       go : (c : ℕ) (rest : List T) → many p rest b ≡ Some c → (c ≤ d) ⊎ ((rest : List T) × (many p rest d ≡ Some c))
       go c [] e = let same : b ≡ c = some_same b c e in inl (omega (arith, same, up))
       go c (u ∷ rest) e =
           let s = split (p u b) (many p rest) c e in
           ⊎_elim
-          (λ same. let place : s.0 ≡ d = some_same s.0 d (sym s.1.0 ∙ ap (λ z. p z b) (sym same) ∙ long.0) in inr (rest, subst (λ z. many p rest z ≡ Some c) place s.1.1))
+          (λ same. let place : s.0 ≡ d = some_same s.0 d (sym s.1.0 ∙ ap (λ z. p z b) (sym same) ∙ long.0) in
+          inr (rest, subst (λ z. many p rest z ≡ Some c) place s.1.1))
           (λ o. ⊎_elim
           (λ l. let no : ⊥ = omega (arith, l.0, long.1 u s.0 s.1.0) in absurd no)
           (λ l. let same : c ≡ s.0 = short s.0 c rest l.1 s.1.1 in inl (omega (arith, l.0, same)))
@@ -284,7 +299,8 @@ module _ (toks : List Terminal) {T : Type 0} (p : T → Step) where
   listed_is_pair : (a : ℕ) (t : T) (us : List T) → listed toks p (t ∷ us) a ≡ pair p (many (next toks p)) (t, us) a
   listed_is_pair a t us = refl
 
-  pub separated_some : (a b : ℕ) (t : T) (ts : List T) → a ≤ b → Longest (pair p (many (next toks p))) a (Some ((t, ts), b)) → Longest (separated toks p) a (Some (t ∷ ts, b))
+  pub separated_some : (a b : ℕ) (t : T) (ts : List T) → a ≤ b → Longest (pair p (many (next toks p))) a (Some ((t, ts), b)) →
+      Longest (separated toks p) a (Some (t ∷ ts, b))
   separated_some a b t ts up l = (l.0, go)
     where
       go : (us : List T) (c : ℕ) → separated toks p us a ≡ Some c → c ≤ b
@@ -293,14 +309,20 @@ module _ (toks : List Terminal) {T : Type 0} (p : T → Step) where
 
   -- an item behind its comma
   pub next_longest : (a b : ℕ) (r : Option (T × ℕ)) → Some b ≡ the toks Comma a → Longest p b r → Longest (next toks p) a r
-  next_longest a b (Some x) h l = (taken (the toks Comma a) b (p x.0) (Some x.1) (sym h) l.0, λ u c e. let s = split (the toks Comma a) (p u) c e in l.1 u c (subst (λ z. p u z ≡ Some c) (some_same s.0 b (sym s.1.0 ∙ sym h)) s.1.1))
-  next_longest a b None h l = λ u c e. let s = split (the toks Comma a) (p u) c e in l u c (subst (λ z. p u z ≡ Some c) (some_same s.0 b (sym s.1.0 ∙ sym h)) s.1.1)
+  next_longest a b (Some x) h l = (
+    taken (the toks Comma a) b (p x.0) (Some x.1) (sym h) l.0,
+    λ u c e. let s = split (the toks Comma a) (p u) c e in
+        l.1 u c (subst (λ z. p u z ≡ Some c) (some_same s.0 b (sym s.1.0 ∙ sym h)) s.1.1),
+  )
+  next_longest a b None h l = λ u c e. let s = split (the toks Comma a) (p u) c e in
+      l u c (subst (λ z. p u z ≡ Some c) (some_same s.0 b (sym s.1.0 ∙ sym h)) s.1.1)
 
   pub next_none : (a : ℕ) → None ≡ the toks Comma a → Longest (next toks p) a None
   next_none a h = λ u c e. let s = split (the toks Comma a) (p u) c e in nothing s.0 (h ∙ s.1.0)
 
 -- a production of whose shape no tree fits
-pub none_by : {T X : Type 0} (p : T → Step) (q : X → Step) (a : ℕ) (back : X → T) (view : (t : T) (b : ℕ) → p t a ≡ Some b → (x : X) × ((back x ≡ t) × (q x a ≡ Some b))) → Longest q a None → Longest p a None
+pub none_by : {T X : Type 0} (p : T → Step) (q : X → Step) (a : ℕ) (back : X → T) (view : (t : T) (b : ℕ) → p t a ≡ Some b → (x : X) ×
+    ((back x ≡ t) × (q x a ≡ Some b))) → Longest q a None → Longest p a None
 none_by p q a back view l = λ t c e. let v = view t c e in l v.0 c v.1.1
 
 -- one or more
@@ -323,8 +345,10 @@ some_none {T} p a l = go
     go (u ∷ us) c e = let s = split (p u a) (many p us) c e in l u s.0 s.1.0
 
 -- one or more with commas
-module _ {toks : List Terminal} {T : Type 0} {p : T → Step} (of_p : Known toks false p) (told : apart of_p.more (map (λ l. In (Comma ∷ []) ∷ l) of_p.first) ≡ true) where
-  pub listed_some : (a m b : ℕ) (t : T) (ts : List T) → Longest p a (Some (t, m)) → Longest (many (next toks p)) m (Some (ts, b)) → Longest (listed toks p) a (Some (t ∷ ts, b))
+module _ {toks : List Terminal} {T : Type 0} {p : T →
+    Step} (of_p : Known toks false p) (told : apart of_p.more (map (λ l. In (Comma ∷ []) ∷ l) of_p.first) ≡ true) where
+  pub listed_some : (a m b : ℕ) (t : T) (ts : List T) → Longest p a (Some (t, m)) → Longest (many (next toks p)) m (Some (ts, b)) →
+      Longest (listed toks p) a (Some (t ∷ ts, b))
   listed_some a m b t ts l rest = (both'.0, go)
     where
       both' : Longest (pair p (many (next toks p))) a (Some ((t, ts), b))

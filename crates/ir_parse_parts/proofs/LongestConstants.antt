@@ -8,7 +8,8 @@ use Rattle.ir_tree.specs.declared.constants.Const.{Const}
 use Rattle.ir_tree.specs.declared.constants.Tconst.{Tconst}
 use Rattle.ir_tree.specs.declared.constants.Const.TheVariants as const_is
 use Rattle.ir_tree.specs.declared.constants.Const.TheOpen.{Const-F}
-use Rattle.ir_tree.specs.declared.constants.Const.TheOpen.Const-F.{Int, True, False, Null, Undef, Poison, Zero, Global, CStr, Array, Struct, Packed, GetElementPtr, Cast, Binop}
+use Rattle.ir_tree.specs.declared.constants.Const.TheOpen.Const-F.{Int, True, False, Null, Undef, Poison, Zero, Global, CStr, Array, Struct, Packed}
+use Rattle.ir_tree.specs.declared.constants.Const.TheOpen.Const-F.{GetElementPtr, Cast, Binop}
 use Rattle.ir_tree.specs.declared.constants.Const.TheViews.{roll-Const}
 use Rattle.ir_tree.specs.declared.constants.Const.TheFolds.{fold-roll-Const, fold_out-Tconst, fold-Tconst, map-Const}
 use Rattle.ir_tree.specs.Steps.{Step, ◌⨾◌, among, the, leaf, many, some, next, separated, Longest}
@@ -17,7 +18,8 @@ use Rattle.ir_tree.specs.Constants.{iflag, gepflag, const_layer, tconst_layer, c
 use Rattle.ir_tree.proofs.Clear.{pair, choice, separated_map, some_next_map, moves, split}
 use Rattle.ir_tree.proofs.Known.{Known, the_of, pair_of, separated_of, some_of, next_of, many_of}
 use Rattle.ir_tree.proofs.ClearTypes.{ty_of}
-use Rattle.ir_tree.proofs.ClearConstants.{const_reads, tconst_of, tconst_reads, gepflag_known, iflag_of, ArrayShape, PackedShape, GepShape, CastShape, BinopShape, back, shape, view, array, struct, packed, gep, cast, binop}
+use Rattle.ir_tree.proofs.ClearConstants.{const_reads, tconst_of, tconst_reads, gepflag_known, iflag_of, ArrayShape, PackedShape, GepShape, CastShape}
+use Rattle.ir_tree.proofs.ClearConstants.{BinopShape, back, shape, view, array, struct, packed, gep, cast, binop}
 use Rattle.ir_parse_parts.specs.Parts.{any_of, constant_words}
 use Rattle.ir_parse_parts.proofs.Longest.{taken, leaf_is_the, leaf_none, the_none, choice_none, pair_none, longest_by, none_by, pair_some, separated_some}
 use Rattle.ir_parse_parts.proofs.LongestRest.{stop, past_the, past_leaf, past_one, past_ty, ends_behind, not_among, none_among}
@@ -32,7 +34,8 @@ module _ (toks : List Terminal) where
   layer x = const_layer toks (map-Const Const Tconst Step Step (const toks) (tconst toks) x)
 
   const_is_layer : (x : Const-F Const Tconst) → const toks (roll-Const x) ≡ layer x
-  const_is_layer x = fold-roll-Const Step Step (const_layer toks) (tconst_layer toks) x ∙ ap (λ f. const_layer toks (map-Const Const Tconst Step Step (const toks) f x)) fold_tconsts
+  const_is_layer x = fold-roll-Const Step Step (const_layer toks) (tconst_layer toks) x ∙
+      ap (λ f. const_layer toks (map-Const Const Tconst Step Step (const toks) f x)) fold_tconsts
 
   fits : (x : Const-F Const Tconst) (c : Const) (a n : ℕ) → roll-Const x ≡ c → layer x a ≡ Some n → Longest (const toks) a (Some (c, n))
   fits x c a n rolls e = longest_by (const_reads toks a) c n (ap (λ t. const toks t a) (sym rolls) ∙ ap (λ s. s a) (const_is_layer x) ∙ e) (λ h. h)
@@ -73,14 +76,24 @@ module _ (toks : List Terminal) where
   compound = choice (array toks) (choice (struct toks) (choice (packed toks) (choice (gep toks) (choice (cast toks) (binop toks)))))
 
   compound_none : (a : ℕ) → None ≡ any_of toks constant_words a → Longest compound a None → Longest (const toks) a None
-  compound_none a words none = none_by (const toks) (shape toks) a back (view toks a) (choice_none _ _ a (no k.Int refl) (choice_none _ _ a (no k.True refl) (choice_none _ _ a (no k.False refl) (choice_none _ _ a (no k.Null refl) (choice_none _ _ a (no k.Undef refl) (choice_none _ _ a (no k.Poison refl) (choice_none _ _ a (no k.Zero refl) (choice_none _ _ a (no k.Global refl) (choice_none _ _ a (no k.CStr refl) none)))))))))
+  compound_none a words none = none_by (const toks) (shape toks) a back (view toks a)
+      (choice_none _ _ a (no k.Int refl)
+      (choice_none _ _ a (no k.True refl)
+      (choice_none _ _ a (no k.False refl)
+      (choice_none _ _ a (no k.Null refl)
+      (choice_none _ _ a (no k.Undef refl)
+      (choice_none _ _ a (no k.Poison refl)
+      (choice_none _ _ a (no k.Zero refl) (choice_none _ _ a (no k.Global refl) (choice_none _ _ a (no k.CStr refl) none)))))))))
     where
       no : (t : Terminal) → among constant_words t ≡ true → Longest (leaf toks t) a None
       no t told = leaf_none toks t a (none_among toks a constant_words t told words)
 
   -- none of the six kinds
-  none_of_six : (a : ℕ) → Longest (array toks) a None → Longest (struct toks) a None → Longest (packed toks) a None → Longest (gep toks) a None → Longest (cast toks) a None → Longest (binop toks) a None → Longest compound a None
-  none_of_six a h1 h2 h3 h4 h5 h6 = choice_none (array toks) _ a h1 (choice_none (struct toks) _ a h2 (choice_none (packed toks) _ a h3 (choice_none (gep toks) _ a h4 (choice_none (cast toks) (binop toks) a h5 h6))))
+  none_of_six : (a : ℕ) → Longest (array toks) a None → Longest (struct toks) a None → Longest (packed toks) a None → Longest (gep toks) a None →
+      Longest (cast toks) a None → Longest (binop toks) a None → Longest compound a None
+  none_of_six a h1 h2 h3 h4 h5 h6 =
+      choice_none (array toks) _ a h1
+      (choice_none (struct toks) _ a h2 (choice_none (packed toks) _ a h3 (choice_none (gep toks) _ a h4 (choice_none (cast toks) (binop toks) a h5 h6))))
 
   -- what begins with a terminal that does not stand here
   not_begun : (t : Terminal) (a : ℕ) {U : Type 0} (q : U → Step) → None ≡ the toks t a → Longest (pair (leaf toks t) q) a None
@@ -97,7 +110,8 @@ module _ (toks : List Terminal) where
   abbrev the_unit : Terminal → Unit {0} → Step
   the_unit t = λ _. the toks t
 
-  past_tconst : {U : Type 0} (q : U → Step) (a b : ℕ) (t : Tconst) → Longest (tconst toks) a (Some (t, b)) → Longest q b None → Longest (pair (tconst toks) q) a None
+  past_tconst : {U : Type 0} (q : U → Step) (a b : ℕ) (t : Tconst) → Longest (tconst toks) a (Some (t, b)) → Longest q b None →
+      Longest (pair (tconst toks) q) a None
   past_tconst q a b t long none = past_one toks q a b (tconst_reads toks a) t long none
 
   -- ---- `'[' tconst,* ']'`
@@ -105,46 +119,57 @@ module _ (toks : List Terminal) where
     array_rest : Longest (pair (separated toks (tconst toks)) (the_unit k.RightBracket)) first None → Longest (const toks) a None
     array_rest none =
         let no = other k.LeftBracket a first bracket in
-        compound_none a (no_word k.LeftBracket a first bracket refl) (none_of_six a (past_leaf toks _ k.LeftBracket a first bracket none) (no k.LeftBrace _ _ refl) (no k.Less _ _ refl) (no k.GetElementPtr _ _ refl) (no k.ConstCast _ _ refl) (no k.ConstBinop _ _ refl))
+        compound_none a (no_word k.LeftBracket a first bracket refl) (none_of_six a (past_leaf toks _ k.LeftBracket a first bracket none)
+        (no k.LeftBrace _ _ refl) (no k.Less _ _ refl) (no k.GetElementPtr _ _ refl) (no k.ConstCast _ _ refl) (no k.ConstBinop _ _ refl))
 
     module _ (parts : List Tconst) (close : ℕ) (l : Longest (separated toks (tconst toks)) first (Some (parts, close))) where
       pub array_no_close : None ≡ the toks k.RightBracket close → Longest (const toks) a None
-      array_no_close n = array_rest (pair_none (separated_of (tconst_of toks) refl) (the_of k.RightBracket) refl first close parts l (the_none toks k.RightBracket close n))
+      array_no_close n = array_rest (pair_none (separated_of (tconst_of toks) refl) (the_of k.RightBracket) refl first close parts l
+          (the_none toks k.RightBracket close n))
 
       pub array_ends : (end : ℕ) → Some end ≡ the toks k.RightBracket close → Longest (const toks) a (Some (const_is.Array a parts, end))
       array_ends end e =
           fits (Array a parts) (const_is.Array a parts) a end (const_is.rolls-Array a parts)
-          (ap (λ z. (leaf toks k.LeftBracket a ⨾ z ⨾ the toks k.RightBracket) a) (separated_map toks (tconst toks) parts) ∙ taken _ first _ _ (leaf_is_the toks k.LeftBracket a ∙ sym bracket) (taken _ close _ _ l.0 (sym e)))
+          (ap (λ z. (leaf toks k.LeftBracket a ⨾ z ⨾ the toks k.RightBracket) a) (separated_map toks (tconst toks) parts) ∙
+          taken _ first _ _ (leaf_is_the toks k.LeftBracket a ∙ sym bracket) (taken _ close _ _ l.0 (sym e)))
 
   -- ---- `'{' tconst,* '}'`
   module _ (a first : ℕ) (brace : Some first ≡ the toks k.LeftBrace a) where
     struct_rest : Longest (pair (separated toks (tconst toks)) (the_unit k.RightBrace)) first None → Longest (const toks) a None
     struct_rest none =
         let no = other k.LeftBrace a first brace in
-        compound_none a (no_word k.LeftBrace a first brace refl) (none_of_six a (no k.LeftBracket _ _ refl) (past_leaf toks _ k.LeftBrace a first brace none) (no k.Less _ _ refl) (no k.GetElementPtr _ _ refl) (no k.ConstCast _ _ refl) (no k.ConstBinop _ _ refl))
+        compound_none a (no_word k.LeftBrace a first brace refl) (none_of_six a (no k.LeftBracket _ _ refl) (past_leaf toks _ k.LeftBrace a first brace none)
+        (no k.Less _ _ refl) (no k.GetElementPtr _ _ refl) (no k.ConstCast _ _ refl) (no k.ConstBinop _ _ refl))
 
     module _ (parts : List Tconst) (close : ℕ) (l : Longest (separated toks (tconst toks)) first (Some (parts, close))) where
       pub struct_no_close : None ≡ the toks k.RightBrace close → Longest (const toks) a None
-      struct_no_close n = struct_rest (pair_none (separated_of (tconst_of toks) refl) (the_of k.RightBrace) refl first close parts l (the_none toks k.RightBrace close n))
+      struct_no_close n = struct_rest (pair_none (separated_of (tconst_of toks) refl) (the_of k.RightBrace) refl first close parts l
+          (the_none toks k.RightBrace close n))
 
       pub struct_ends : (end : ℕ) → Some end ≡ the toks k.RightBrace close → Longest (const toks) a (Some (const_is.Struct a parts, end))
       struct_ends end e =
           fits (Struct a parts) (const_is.Struct a parts) a end (const_is.rolls-Struct a parts)
-          (ap (λ z. (leaf toks k.LeftBrace a ⨾ z ⨾ the toks k.RightBrace) a) (separated_map toks (tconst toks) parts) ∙ taken _ first _ _ (leaf_is_the toks k.LeftBrace a ∙ sym brace) (taken _ close _ _ l.0 (sym e)))
+          (ap (λ z. (leaf toks k.LeftBrace a ⨾ z ⨾ the toks k.RightBrace) a) (separated_map toks (tconst toks) parts) ∙
+          taken _ first _ _ (leaf_is_the toks k.LeftBrace a ∙ sym brace) (taken _ close _ _ l.0 (sym e)))
 
   -- ---- `'<' '{' tconst,* '}' '>'`
   module _ (a first : ℕ) (less : Some first ≡ the toks k.Less a) where
-    packed_rest : Longest (pair (the_unit k.LeftBrace) (pair (separated toks (tconst toks)) (pair (the_unit k.RightBrace) (the_unit k.Greater)))) first None → Longest (const toks) a None
+    packed_rest : Longest (pair (the_unit k.LeftBrace) (pair (separated toks (tconst toks)) (pair (the_unit k.RightBrace) (the_unit k.Greater)))) first None →
+        Longest (const toks) a None
     packed_rest none =
         let no = other k.Less a first less in
-        compound_none a (no_word k.Less a first less refl) (none_of_six a (no k.LeftBracket _ _ refl) (no k.LeftBrace _ _ refl) (past_leaf toks _ k.Less a first less none) (no k.GetElementPtr _ _ refl) (no k.ConstCast _ _ refl) (no k.ConstBinop _ _ refl))
+        compound_none a (no_word k.Less a first less refl) (none_of_six a (no k.LeftBracket _ _ refl) (no k.LeftBrace _ _ refl)
+        (past_leaf toks _ k.Less a first less none) (no k.GetElementPtr _ _ refl) (no k.ConstCast _ _ refl) (no k.ConstBinop _ _ refl))
 
     pub packed_no_brace : None ≡ the toks k.LeftBrace first → Longest (const toks) a None
     packed_no_brace n = packed_rest (stop (the_unit k.LeftBrace) _ first (the_none toks k.LeftBrace first n))
 
-    module _ (inner : ℕ) (brace : Some inner ≡ the toks k.LeftBrace first) (parts : List Tconst) (close : ℕ) (l : Longest (separated toks (tconst toks)) inner (Some (parts, close))) where
+    module _ (inner : ℕ) (brace : Some inner ≡ the toks k.LeftBrace first) (parts : List Tconst) (close : ℕ)
+        (l : Longest (separated toks (tconst toks)) inner (Some (parts, close))) where
       packed_parts : Longest (pair (the_unit k.RightBrace) (the_unit k.Greater)) close None → Longest (const toks) a None
-      packed_parts none = packed_rest (past_the toks _ k.LeftBrace first inner brace (pair_none (separated_of (tconst_of toks) refl) (pair_of (the_of k.RightBrace) (the_of k.Greater) refl) refl inner close parts l none))
+      packed_parts none = packed_rest
+          (past_the toks _ k.LeftBrace first inner brace (pair_none (separated_of (tconst_of toks) refl) (pair_of (the_of k.RightBrace) (the_of k.Greater) refl)
+          refl inner close parts l none))
 
       pub packed_no_close : None ≡ the toks k.RightBrace close → Longest (const toks) a None
       packed_no_close n = packed_parts (stop (the_unit k.RightBrace) _ close (the_none toks k.RightBrace close n))
@@ -156,7 +181,9 @@ module _ (toks : List Terminal) where
         pub packed_ends : (end : ℕ) → Some end ≡ the toks k.Greater greater → Longest (const toks) a (Some (const_is.Packed a parts, end))
         packed_ends end e =
             fits (Packed a parts) (const_is.Packed a parts) a end (const_is.rolls-Packed a parts)
-            (ap (λ z. (leaf toks k.Less a ⨾ the toks k.LeftBrace ⨾ z ⨾ the toks k.RightBrace ⨾ the toks k.Greater) a) (separated_map toks (tconst toks) parts) ∙ taken _ first _ _ (leaf_is_the toks k.Less a ∙ sym less) (taken _ inner _ _ (sym brace) (taken _ close _ _ l.0 (taken _ greater _ _ (sym closed) (sym e)))))
+            (ap (λ z. (leaf toks k.Less a ⨾ the toks k.LeftBrace ⨾ z ⨾ the toks k.RightBrace ⨾ the toks k.Greater) a) (separated_map toks (tconst toks) parts) ∙
+            taken _ first _ _ (leaf_is_the toks k.Less a ∙
+            sym less) (taken _ inner _ _ (sym brace) (taken _ close _ _ l.0 (taken _ greater _ _ (sym closed) (sym e)))))
 
   -- ---- `'getelementptr' gepflag* '(' type (',' tconst)+ ')'`
   abbrev operands_close : List Tconst × Unit {0} → Step
@@ -178,7 +205,8 @@ module _ (toks : List Terminal) where
     gep_rest : Longest (pair (many (gepflag toks)) elem_operands) first None → Longest (const toks) a None
     gep_rest none =
         let no = other k.GetElementPtr a first op in
-        compound_none a (no_word k.GetElementPtr a first op refl) (none_of_six a (no k.LeftBracket _ _ refl) (no k.LeftBrace _ _ refl) (no k.Less _ _ refl) (past_leaf toks _ k.GetElementPtr a first op none) (no k.ConstCast _ _ refl) (no k.ConstBinop _ _ refl))
+        compound_none a (no_word k.GetElementPtr a first op refl) (none_of_six a (no k.LeftBracket _ _ refl) (no k.LeftBrace _ _ refl) (no k.Less _ _ refl)
+        (past_leaf toks _ k.GetElementPtr a first op none) (no k.ConstCast _ _ refl) (no k.ConstBinop _ _ refl))
 
     module _ (flags : List Gepflag) (paren : ℕ) (flagged : Longest (many (gepflag toks)) first (Some (flags, paren))) where
       gep_flags : Longest elem_operands paren None → Longest (const toks) a None
@@ -202,18 +230,24 @@ module _ (toks : List Terminal) where
             pub gep_no_close : None ≡ the toks k.RightParen close → Longest (const toks) a None
             gep_no_close n = gep_elem (pair_none operands_of (the_of k.RightParen) refl comma close operands l (the_none toks k.RightParen close n))
 
-            pub gep_ends : (end : ℕ) → Some end ≡ the toks k.RightParen close → Longest (const toks) a (Some (const_is.GetElementPtr a flags elem operands, end))
+            pub gep_ends : (end : ℕ) → Some end ≡ the toks k.RightParen close →
+                Longest (const toks) a (Some (const_is.GetElementPtr a flags elem operands, end))
             gep_ends end e =
-                fits (GetElementPtr a flags elem operands) (const_is.GetElementPtr a flags elem operands) a end (const_is.rolls-GetElementPtr a flags elem operands)
-                (ap (λ z. (leaf toks k.GetElementPtr a ⨾ many (gepflag toks) flags ⨾ the toks k.LeftParen ⨾ ty toks elem ⨾ z ⨾ the toks k.RightParen) a) (some_next_map toks (tconst toks) operands)
-                ∙ taken _ first _ _ (leaf_is_the toks k.GetElementPtr a ∙ sym op) (taken _ paren _ _ flagged.0 (taken _ inner _ _ (sym opened) (taken _ comma _ _ typed.0 (taken _ close _ _ l.0 (sym e))))))
+                fits (GetElementPtr a flags elem operands) (const_is.GetElementPtr a flags elem operands) a end
+                (const_is.rolls-GetElementPtr a flags elem operands)
+                (ap (λ z. (leaf toks k.GetElementPtr a ⨾ many (gepflag toks) flags ⨾ the toks k.LeftParen ⨾ ty toks elem ⨾ z ⨾ the toks k.RightParen) a)
+                (some_next_map toks (tconst toks) operands)
+                ∙ taken _ first _ _ (leaf_is_the toks k.GetElementPtr a ∙
+                sym op) (taken _ paren _ _ flagged.0 (taken _ inner _ _ (sym opened) (taken _ comma _ _ typed.0 (taken _ close _ _ l.0 (sym e))))))
 
   -- ---- `('ptrtoint' | 'trunc') '(' tconst 'to' type ')'`
   module _ (a first : ℕ) (op : Some first ≡ the toks k.ConstCast a) where
-    cast_rest : Longest (pair (the_unit k.LeftParen) (pair (tconst toks) (pair (the_unit k.To) (pair (ty toks) (the_unit k.RightParen))))) first None → Longest (const toks) a None
+    cast_rest : Longest (pair (the_unit k.LeftParen) (pair (tconst toks) (pair (the_unit k.To) (pair (ty toks) (the_unit k.RightParen))))) first None →
+        Longest (const toks) a None
     cast_rest none =
         let no = other k.ConstCast a first op in
-        compound_none a (no_word k.ConstCast a first op refl) (none_of_six a (no k.LeftBracket _ _ refl) (no k.LeftBrace _ _ refl) (no k.Less _ _ refl) (no k.GetElementPtr _ _ refl) (past_leaf toks _ k.ConstCast a first op none) (no k.ConstBinop _ _ refl))
+        compound_none a (no_word k.ConstCast a first op refl) (none_of_six a (no k.LeftBracket _ _ refl) (no k.LeftBrace _ _ refl) (no k.Less _ _ refl)
+        (no k.GetElementPtr _ _ refl) (past_leaf toks _ k.ConstCast a first op none) (no k.ConstBinop _ _ refl))
 
     pub cast_no_paren : None ≡ the toks k.LeftParen first → Longest (const toks) a None
     cast_no_paren n = cast_rest (stop (the_unit k.LeftParen) _ first (the_none toks k.LeftParen first n))
@@ -235,12 +269,14 @@ module _ (toks : List Terminal) where
 
           module _ (to : Ty) (close : ℕ) (typed : Longest (ty toks) target (Some (to, close))) where
             pub cast_no_close : None ≡ the toks k.RightParen close → Longest (const toks) a None
-            cast_no_close n = cast_operand (past_the toks _ k.To word target to_word (past_ty toks (the_unit k.RightParen) target close to typed (the_none toks k.RightParen close n)))
+            cast_no_close n = cast_operand (past_the toks _ k.To word target to_word (past_ty toks (the_unit k.RightParen) target close to typed
+                (the_none toks k.RightParen close n)))
 
             pub cast_ends : (end : ℕ) → Some end ≡ the toks k.RightParen close → Longest (const toks) a (Some (const_is.Cast a of to, end))
             cast_ends end e =
                 fits (Cast a of to) (const_is.Cast a of to) a end (const_is.rolls-Cast a of to)
-                (taken _ first _ _ (leaf_is_the toks k.ConstCast a ∙ sym op) (taken _ inner _ _ (sym paren) (taken _ word _ _ l.0 (taken _ target _ _ (sym to_word) (taken _ close _ _ typed.0 (sym e))))))
+                (taken _ first _ _ (leaf_is_the toks k.ConstCast a ∙
+                sym op) (taken _ inner _ _ (sym paren) (taken _ word _ _ l.0 (taken _ target _ _ (sym to_word) (taken _ close _ _ typed.0 (sym e))))))
 
   -- ---- `('add' | 'sub' | 'xor') iflag* '(' tconst ',' tconst ')'`
   abbrev second_close : Unit {0} × (Tconst × Unit {0}) → Step
@@ -250,13 +286,15 @@ module _ (toks : List Terminal) where
   two_operands = pair (the_unit k.LeftParen) (pair (tconst toks) second_close)
 
   abbrev two_operands_of : Known toks false two_operands
-  two_operands_of = pair_of (the_of k.LeftParen) (pair_of (tconst_of toks) (pair_of (the_of k.Comma) (pair_of (tconst_of toks) (the_of k.RightParen) refl) refl) refl) refl
+  two_operands_of = pair_of (the_of k.LeftParen) (pair_of (tconst_of toks) (pair_of (the_of k.Comma) (pair_of (tconst_of toks) (the_of k.RightParen) refl) refl)
+      refl) refl
 
   module _ (a first : ℕ) (op : Some first ≡ the toks k.ConstBinop a) where
     binop_rest : Longest (pair (many (iflag toks)) two_operands) first None → Longest (const toks) a None
     binop_rest none =
         let no = other k.ConstBinop a first op in
-        compound_none a (no_word k.ConstBinop a first op refl) (none_of_six a (no k.LeftBracket _ _ refl) (no k.LeftBrace _ _ refl) (no k.Less _ _ refl) (no k.GetElementPtr _ _ refl) (no k.ConstCast _ _ refl) (past_leaf toks _ k.ConstBinop a first op none))
+        compound_none a (no_word k.ConstBinop a first op refl) (none_of_six a (no k.LeftBracket _ _ refl) (no k.LeftBrace _ _ refl) (no k.Less _ _ refl)
+        (no k.GetElementPtr _ _ refl) (no k.ConstCast _ _ refl) (past_leaf toks _ k.ConstBinop a first op none))
 
     module _ (flags : List ℕ) (paren : ℕ) (flagged : Longest (many (iflag toks)) first (Some (flags, paren))) where
       binop_flags : Longest two_operands paren None → Longest (const toks) a None
@@ -282,19 +320,26 @@ module _ (toks : List Terminal) where
 
             module _ (right : Tconst) (close : ℕ) (l' : Longest (tconst toks) second (Some (right, close))) where
               pub binop_no_close : None ≡ the toks k.RightParen close → Longest (const toks) a None
-              binop_no_close n = binop_left (past_the toks _ k.Comma comma second apart (past_tconst (the_unit k.RightParen) second close right l' (the_none toks k.RightParen close n)))
+              binop_no_close n = binop_left (past_the toks _ k.Comma comma second apart (past_tconst (the_unit k.RightParen) second close right l'
+                  (the_none toks k.RightParen close n)))
 
               pub binop_ends : (end : ℕ) → Some end ≡ the toks k.RightParen close → Longest (const toks) a (Some (const_is.Binop a flags left right, end))
               binop_ends end e =
                   fits (Binop a flags left right) (const_is.Binop a flags left right) a end (const_is.rolls-Binop a flags left right)
-                  (taken _ first _ _ (leaf_is_the toks k.ConstBinop a ∙ sym op) (taken _ paren _ _ flagged.0 (taken _ inner _ _ (sym opened) (taken _ comma _ _ l.0 (taken _ second _ _ (sym apart) (taken _ close _ _ l'.0 (sym e)))))))
+                  (taken _ first _ _ (leaf_is_the toks k.ConstBinop a ∙
+                  sym op) (taken _ paren _ _ flagged.0
+                  (taken _ inner _ _ (sym opened) (taken _ comma _ _ l.0 (taken _ second _ _ (sym apart) (taken _ close _ _ l'.0 (sym e)))))))
 
   -- ---- no first token of a constant
-  pub const_none : (a : ℕ) → None ≡ any_of toks constant_words a → None ≡ the toks k.LeftBracket a → None ≡ the toks k.LeftBrace a → None ≡ the toks k.Less a → None ≡ the toks k.GetElementPtr a → None ≡ the toks k.ConstCast a → None ≡ the toks k.ConstBinop a → Longest (const toks) a None
-  const_none a words h1 h2 h3 h4 h5 h6 = compound_none a words (none_of_six a (not_begun k.LeftBracket a _ h1) (not_begun k.LeftBrace a _ h2) (not_begun k.Less a _ h3) (not_begun k.GetElementPtr a _ h4) (not_begun k.ConstCast a _ h5) (not_begun k.ConstBinop a _ h6))
+  pub const_none : (a : ℕ) → None ≡ any_of toks constant_words a → None ≡ the toks k.LeftBracket a → None ≡ the toks k.LeftBrace a → None ≡ the toks k.Less a →
+      None ≡ the toks k.GetElementPtr a → None ≡ the toks k.ConstCast a → None ≡ the toks k.ConstBinop a → Longest (const toks) a None
+  const_none a words h1 h2 h3 h4 h5 h6 =
+      compound_none a words (none_of_six a (not_begun k.LeftBracket a _ h1) (not_begun k.LeftBrace a _ h2) (not_begun k.Less a _ h3)
+      (not_begun k.GetElementPtr a _ h4) (not_begun k.ConstCast a _ h5) (not_begun k.ConstBinop a _ h6))
 
   -- ---- a type and a constant
-  pub tconst_some : (a m b : ℕ) (t : Ty) (c : Const) → Longest (ty toks) a (Some (t, m)) → Longest (const toks) m (Some (c, b)) → Longest (tconst toks) a (Some (record { ty = t; value = c }, b))
+  pub tconst_some : (a m b : ℕ) (t : Ty) (c : Const) → Longest (ty toks) a (Some (t, m)) → Longest (const toks) m (Some (c, b)) →
+      Longest (tconst toks) a (Some (record { ty = t; value = c }, b))
   tconst_some a m b t c l l' = longest_by (tconst_reads toks a) (record { ty = t; value = c }) b (taken _ m _ _ l.0 l'.0) (λ h. h)
 
   pub tconst_no_ty : (a : ℕ) → Longest (ty toks) a None → Longest (tconst toks) a None
@@ -315,11 +360,20 @@ module _ (toks : List Terminal) where
 
   pub next_ends : (a n : ℕ) (t : Tconst) → Longest (next toks (tconst toks)) a (Some (t, n)) → (a < n) × (n ≤ length toks)
   next_ends a n t l =
-      let s = split (the toks k.Comma a) (tconst toks t) n l.0 in
-      ((moves toks next_tconst_of.first a n ((next_tconst_of.at a).opens t n l.0)).0, (tconst_reads toks s.0).within t n s.1.1 (the_moves toks k.Comma a s.0 s.1.0).1)
+      let s = split (the toks k.Comma a) (tconst toks t) n l.0 in (
+        (moves toks next_tconst_of.first a n ((next_tconst_of.at a).opens t n l.0)).0,
+        (tconst_reads toks s.0).within t n s.1.1 (the_moves toks k.Comma a s.0 s.1.0).1,
+      )
 
   -- ---- lists of them
-  pub tconsts_listed : (a m b : ℕ) (t : Tconst) (ts : List Tconst) → Longest (tconst toks) a (Some (t, m)) → Longest (many (next toks (tconst toks))) m (Some (ts, b)) → Longest (separated toks (tconst toks)) a (Some (t ∷ ts, b))
+  pub tconsts_listed : (a m b : ℕ) (t : Tconst) (ts : List Tconst) → Longest (tconst toks) a (Some (t, m)) →
+      Longest (many (next toks (tconst toks))) m (Some (ts, b)) → Longest (separated toks (tconst toks)) a (Some (t ∷ ts, b))
   tconsts_listed a m b t ts l rest =
       let both = pair_some (tconst_of toks) (many_of next_tconst_of refl) refl a m b t ts l rest in
-      separated_some toks (tconst toks) a b t ts (omega (arith, ((pair_of (tconst_of toks) (many_of next_tconst_of refl) refl).at a).opens (t, ts) b both.0)) both
+      separated_some toks (tconst toks) a b t ts (omega (
+        arith,
+        ((pair_of (tconst_of toks) (many_of next_tconst_of refl) refl).at a).opens (
+          t,
+          ts,
+        ) b both.0,
+      )) both

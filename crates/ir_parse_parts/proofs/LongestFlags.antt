@@ -24,5 +24,7 @@ module _ (toks : List Terminal) (a : ℕ) where
       go : (u : Gepflag) (c : ℕ) → gepflag toks u a ≡ Some c → ⊥
       go (Word at) c e = nothing c (h ∙ passing_behind toks (among words) a at c e)
       go (InRange word from to) c e =
-          let s = split (leaf toks k.InRange word a) (the toks k.LeftParen ⨾ leaf toks k.Int from ⨾ the toks k.Comma ⨾ leaf toks k.Int to ⨾ the toks k.RightParen) c e in
-          l (from, to) c (taken (the toks k.InRange a) s.0 (the toks k.LeftParen ⨾ leaf toks k.Int from ⨾ the toks k.Comma ⨾ leaf toks k.Int to ⨾ the toks k.RightParen) (Some c) (the_of_leaf toks k.InRange a word s.0 s.1.0) s.1.1)
+          let s = split (leaf toks k.InRange word a) (the toks k.LeftParen ⨾ leaf toks k.Int from ⨾ the toks k.Comma ⨾ leaf toks k.Int to ⨾ the toks
+          k.RightParen) c e in
+          l (from, to) c (taken (the toks k.InRange a) s.0 (the toks k.LeftParen ⨾ leaf toks k.Int from ⨾ the toks k.Comma ⨾ leaf toks k.Int to ⨾ the toks
+          k.RightParen) (Some c) (the_of_leaf toks k.InRange a word s.0 s.1.0) s.1.1)

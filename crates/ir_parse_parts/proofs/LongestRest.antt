@@ -31,11 +31,13 @@ module _ (toks : List Terminal) {U : Type 0} (q : U → Step) where
   past_leaf t a b h none = past (leaf toks t) a b (λ u c e. some_same c b (sym (the_of_leaf toks t a u c e) ∙ sym h)) none
 
   -- a production of which a longer tree cannot go on
-  pub past_one : {T : Type 0} {p : T → Step} {first : List Look} {e : Bool} (a b : ℕ) → Reads toks p first [] e a → (t : T) → Longest p a (Some (t, b)) → Longest q b None → Longest (pair p q) a None
+  pub past_one : {T : Type 0} {p : T → Step} {first : List Look} {e : Bool} (a b : ℕ) → Reads toks p first [] e a → (t : T) → Longest p a (Some (t, b)) →
+      Longest q b None → Longest (pair p q) a None
   past_one {T} {p} a b reads t long none = past p a b ends none
     where
       ends : (u : T) (c : ℕ) → p u a ≡ Some c → c ≡ b
-      ends u c e = ⊎_elim (λ same. some_same c b (sym e ∙ ap (λ z. p z a) (sym same) ∙ long.0)) (λ d. ⊎_elim (λ h. absurd h.1) (λ h. absurd h.1) d) (reads.clear t u b c long.0 e)
+      ends u c e = ⊎_elim (λ same. some_same c b (sym e ∙ ap (λ z. p z a) (sym same) ∙
+          long.0)) (λ d. ⊎_elim (λ h. absurd h.1) (λ h. absurd h.1) d) (reads.clear t u b c long.0 e)
 
   -- a type
   pub past_ty : (a b : ℕ) (t : Ty) → Longest (ty toks) a (Some (t, b)) → Longest q b None → Longest (pair (ty toks) q) a None
@@ -76,7 +78,8 @@ module _ (toks : List Terminal) (a : ℕ) where
   unfolding sees
   any_more t set = go (slice_get toks a)
     where
-      go : (o : Option Terminal) → None ≡ when (seen (among (t ∷ [])) o) (suc a) → None ≡ when (seen (among set) o) (suc a) → None ≡ when (seen (among (t ∷ set)) o) (suc a)
+      go : (o : Option Terminal) → None ≡ when (seen (among (t ∷ [])) o) (suc a) → None ≡ when (seen (among set) o) (suc a) →
+          None ≡ when (seen (among (t ∷ set)) o) (suc a)
       go None none other = none
       go (Some f) none other = neither (is t f) none
         where

@@ -29,7 +29,8 @@ module _ (toks : List Terminal) where
       go (Const x) c e = none x c e
 
   -- ---- a type and a value
-  pub tvalue_some : (a m b : ℕ) (t : Ty) (v : Value) → Longest (ty toks) a (Some (t, m)) → Longest (value toks) m (Some (v, b)) → Longest (tvalue toks) a (Some (record { ty = t; value = v }, b))
+  pub tvalue_some : (a m b : ℕ) (t : Ty) (v : Value) → Longest (ty toks) a (Some (t, m)) → Longest (value toks) m (Some (v, b)) →
+      Longest (tvalue toks) a (Some (record { ty = t; value = v }, b))
   tvalue_some a m b t v l l' = longest_by (tvalue_reads toks a) (record { ty = t; value = v }) b (taken _ m _ _ l.0 l'.0) (λ h. h)
 
   pub tvalue_no_ty : (a : ℕ) → Longest (ty toks) a None → Longest (tvalue toks) a None

@@ -22,7 +22,8 @@ use Rattle.ir_tree.proofs.ClearConstants.{const_of}
 use Rattle.ir_tree.proofs.ClearAttributes.{comdat_of, attach_of}
 use Rattle.ir_tree.proofs.ClearEntities.{GtailShape, gtail_back, gtail_shape, gtail_view, gtail_of}
 use Rattle.ir_parse_parts.specs.Parts.{any_of}
-use Rattle.ir_parse_parts.proofs.Longest.{nothing, leaf_some, leaf_none, the_some, the_none, passing_some, passing_none, choice_left, choice_right, optional_some, optional_none, pair_some, pair_none, pair_stop, shape_some, shape_none}
+use Rattle.ir_parse_parts.proofs.Longest.{nothing, leaf_some, leaf_none, the_some, the_none, passing_some, passing_none, choice_left, choice_right}
+use Rattle.ir_parse_parts.proofs.Longest.{optional_some, optional_none, pair_some, pair_none, pair_stop, shape_some, shape_none}
 use Rattle.ir_parse_top.specs.declared.globals.Introduction.{Introduction}
 use Rattle.ir_parse_top.specs.declared.globals.Contents.{Contents}
 use Rattle.ir_parse_top.specs.Parts.{leaf_pair, introduced, typed, behind_initial}
@@ -35,11 +36,14 @@ or_in_turn false true z = refl
 or_in_turn false false true = refl
 or_in_turn false false false = refl
 
-pub sees_gwords : (toks : List Terminal) (a : ℕ) → sees toks (among (k.Hword ∷ k.Unnamed ∷ k.ExternallyInitialized ∷ [])) a ≡ ((stands toks k.Hword a || stands toks k.Unnamed a) || stands toks k.ExternallyInitialized a)
+pub sees_gwords : (toks : List Terminal) (a : ℕ) →
+    sees toks (among (k.Hword ∷ k.Unnamed ∷ k.ExternallyInitialized ∷ [])) a ≡ ((stands toks k.Hword a || stands toks k.Unnamed a) || stands toks
+    k.ExternallyInitialized a)
 unfolding sees
 sees_gwords toks a = go (slice_get toks a)
   where
-    go : (o : Option Terminal) → seen (among (k.Hword ∷ k.Unnamed ∷ k.ExternallyInitialized ∷ [])) o ≡ ((seen (among (k.Hword ∷ [])) o || seen (among (k.Unnamed ∷ [])) o) || seen (among (k.ExternallyInitialized ∷ [])) o)
+    go : (o : Option Terminal) → seen (among (k.Hword ∷ k.Unnamed ∷ k.ExternallyInitialized ∷ [])) o ≡
+        ((seen (among (k.Hword ∷ [])) o || seen (among (k.Unnamed ∷ [])) o) || seen (among (k.ExternallyInitialized ∷ [])) o)
     go None = refl
     go (Some f) = or_in_turn (is k.Hword f) (is k.Unnamed f) (is k.ExternallyInitialized f)
 
@@ -80,7 +84,8 @@ module _ (toks : List Terminal) where
     pub initial_none : false ≡ names_next toks a → Longest (const toks) a None → Longest (optional (initial toks)) a (Some (None, a))
     initial_none h l = optional_none (initial toks) a (free_by (names_next toks) (const toks) a h None l)
 
-    pub initial_some : false ≡ names_next toks a → (value : Const) (n : ℕ) → Longest (const toks) a (Some (value, n)) → Longest (optional (initial toks)) a (Some (Some value, n))
+    pub initial_some : false ≡ names_next toks a → (value : Const) (n : ℕ) → Longest (const toks) a (Some (value, n)) →
+        Longest (optional (initial toks)) a (Some (Some value, n))
     initial_some h value n l = optional_some initial_of a n value (free_by (names_next toks) (const toks) a h (Some (value, n)) l)
 
   -- ---- `gword`
@@ -131,10 +136,13 @@ module _ (toks : List Terminal) where
   abbrev from_align : Known toks false (choice (leaf_pair toks k.Align k.Int) (choice (comdat toks) (choice (attach toks) (aword toks))))
   from_align = choice_of align_part from_comdat refl
 
-  abbrev from_model : Known toks false (choice (leaf_pair toks k.CodeModel k.Str) (choice (leaf_pair toks k.Align k.Int) (choice (comdat toks) (choice (attach toks) (aword toks)))))
+  abbrev from_model : Known toks false
+      (choice (leaf_pair toks k.CodeModel k.Str) (choice (leaf_pair toks k.Align k.Int) (choice (comdat toks) (choice (attach toks) (aword toks)))))
   from_model = choice_of model_part from_align refl
 
-  abbrev from_partition : Known toks false (choice (leaf_pair toks k.Partition k.Str) (choice (leaf_pair toks k.CodeModel k.Str) (choice (leaf_pair toks k.Align k.Int) (choice (comdat toks) (choice (attach toks) (aword toks))))))
+  abbrev from_partition : Known toks false
+      (choice (leaf_pair toks k.Partition k.Str)
+      (choice (leaf_pair toks k.CodeModel k.Str) (choice (leaf_pair toks k.Align k.Int) (choice (comdat toks) (choice (attach toks) (aword toks))))))
   from_partition = choice_of partition_part from_model refl
 
   module _ (a n : ℕ) where
@@ -142,24 +150,30 @@ module _ (toks : List Terminal) where
     gtail_by x l = shape_some (gtail toks) gtail_back (gtail_view toks) gtail_unview {x = x} l
 
     -- one of the tails behind the section, the partition, the code model and the alignment
-    later_by : (x : Comdat ⊎ (Attach ⊎ ℕ)) → Longest (choice (comdat toks) (choice (attach toks) (aword toks))) a (Some (x, n)) → Longest (gtail toks) a (Some (gtail_back (inr (inr (inr (inr x)))), n))
+    later_by : (x : Comdat ⊎ (Attach ⊎ ℕ)) → Longest (choice (comdat toks) (choice (attach toks) (aword toks))) a (Some (x, n)) →
+        Longest (gtail toks) a (Some (gtail_back (inr (inr (inr (inr x)))), n))
     later_by x l =
         gtail_by (inr (inr (inr (inr x))))
-        (choice_right section_part from_partition refl a n (inr (inr (inr x))) (choice_right partition_part from_model refl a n (inr (inr x)) (choice_right model_part from_align refl a n (inr x) (choice_right align_part from_comdat refl a n x l))))
+        (choice_right section_part from_partition refl a n (inr (inr (inr x))) (choice_right partition_part from_model refl a n (inr (inr x))
+        (choice_right model_part from_align refl a n (inr x) (choice_right align_part from_comdat refl a n x l))))
 
     pub gtail_section : (x : ℕ × ℕ) → Longest (leaf_pair toks k.Section k.Str) a (Some (x, n)) → Longest (gtail toks) a (Some (gtail_is.Section x.0 x.1, n))
     gtail_section x l = gtail_by (inl x) (choice_left section_part from_partition refl a n x l)
 
-    pub gtail_partition : (x : ℕ × ℕ) → Longest (leaf_pair toks k.Partition k.Str) a (Some (x, n)) → Longest (gtail toks) a (Some (gtail_is.Partition x.0 x.1, n))
-    gtail_partition x l = gtail_by (inr (inl x)) (choice_right section_part from_partition refl a n (inl x) (choice_left partition_part from_model refl a n x l))
+    pub gtail_partition : (x : ℕ × ℕ) → Longest (leaf_pair toks k.Partition k.Str) a (Some (x, n)) →
+        Longest (gtail toks) a (Some (gtail_is.Partition x.0 x.1, n))
+    gtail_partition x l = gtail_by (inr (inl x)) (choice_right section_part from_partition refl a n (inl x)
+        (choice_left partition_part from_model refl a n x l))
 
     pub gtail_model : (x : ℕ × ℕ) → Longest (leaf_pair toks k.CodeModel k.Str) a (Some (x, n)) → Longest (gtail toks) a (Some (gtail_is.CodeModel x.0 x.1, n))
-    gtail_model x l = gtail_by (inr (inr (inl x))) (choice_right section_part from_partition refl a n (inr (inl x)) (choice_right partition_part from_model refl a n (inl x) (choice_left model_part from_align refl a n x l)))
+    gtail_model x l = gtail_by (inr (inr (inl x))) (choice_right section_part from_partition refl a n (inr (inl x))
+        (choice_right partition_part from_model refl a n (inl x) (choice_left model_part from_align refl a n x l)))
 
     pub gtail_align : (x : ℕ × ℕ) → Longest (leaf_pair toks k.Align k.Int) a (Some (x, n)) → Longest (gtail toks) a (Some (gtail_is.Align x.0 x.1, n))
     gtail_align x l =
         gtail_by (inr (inr (inr (inl x))))
-        (choice_right section_part from_partition refl a n (inr (inr (inl x))) (choice_right partition_part from_model refl a n (inr (inl x)) (choice_right model_part from_align refl a n (inl x) (choice_left align_part from_comdat refl a n x l))))
+        (choice_right section_part from_partition refl a n (inr (inr (inl x))) (choice_right partition_part from_model refl a n (inr (inl x))
+        (choice_right model_part from_align refl a n (inl x) (choice_left align_part from_comdat refl a n x l))))
 
     pub gtail_comdat : (x : Comdat) → Longest (comdat toks) a (Some (x, n)) → Longest (gtail toks) a (Some (gtail_is.Comdat x, n))
     gtail_comdat x l = later_by (inl x) (choice_left (comdat_of toks) from_attach refl a n x l)
@@ -168,9 +182,12 @@ module _ (toks : List Terminal) where
     gtail_attach x l = later_by (inr (inl x)) (choice_right (comdat_of toks) from_attach refl a n (inl x) (choice_left (attach_of toks) word_part refl a n x l))
 
     pub gtail_word : Some n ≡ any_of toks awords a → Longest (gtail toks) a (Some (gtail_is.Word a, n))
-    gtail_word h = later_by (inr (inr a)) (choice_right (comdat_of toks) from_attach refl a n (inr a) (choice_right (attach_of toks) word_part refl a n a (passing_some toks (among awords) a n h)))
+    gtail_word h = later_by (inr (inr a)) (choice_right (comdat_of toks) from_attach refl a n (inr a)
+        (choice_right (attach_of toks) word_part refl a n a (passing_some toks (among awords) a n h)))
 
-  pub gtail_none : (a : ℕ) → Longest (leaf_pair toks k.Section k.Str) a None → Longest (leaf_pair toks k.Partition k.Str) a None → Longest (leaf_pair toks k.CodeModel k.Str) a None → Longest (leaf_pair toks k.Align k.Int) a None → Longest (comdat toks) a None → Longest (attach toks) a None → None ≡ any_of toks awords a → Longest (gtail toks) a None
+  pub gtail_none : (a : ℕ) → Longest (leaf_pair toks k.Section k.Str) a None → Longest (leaf_pair toks k.Partition k.Str) a None →
+      Longest (leaf_pair toks k.CodeModel k.Str) a None → Longest (leaf_pair toks k.Align k.Int) a None → Longest (comdat toks) a None →
+      Longest (attach toks) a None → None ≡ any_of toks awords a → Longest (gtail toks) a None
   gtail_none a section partition model align named attached word = go
     where
       go : (u : Gtail) (c : ℕ) → gtail toks u a ≡ Some c → ⊥
@@ -187,12 +204,14 @@ module _ (toks : List Terminal) where
   IntroductionShape = ℕ × (Unit {0} × (Option ℕ × (List ℕ × ℕ)))
 
   abbrev introduction_shape : IntroductionShape → Step
-  introduction_shape = pair (leaf toks k.Global) (pair (λ _. the toks k.Equals) (pair (optional (leaf toks k.Linkage)) (pair (many (gword toks)) (leaf toks k.Variable))))
+  introduction_shape = pair (leaf toks k.Global)
+      (pair (λ _. the toks k.Equals) (pair (optional (leaf toks k.Linkage)) (pair (many (gword toks)) (leaf toks k.Variable))))
 
   abbrev introduction_back : IntroductionShape → Introduction
   introduction_back x = record { name = x.0; linkage = x.1.1.0; words = x.1.1.1.0; kind = x.1.1.1.1 }
 
-  introduction_view : (t : Introduction) (a b : ℕ) → introduced toks t a ≡ Some b → (x : IntroductionShape) × ((introduction_back x ≡ t) × (introduction_shape x a ≡ Some b))
+  introduction_view : (t : Introduction) (a b : ℕ) → introduced toks t a ≡ Some b → (x : IntroductionShape) ×
+      ((introduction_back x ≡ t) × (introduction_shape x a ≡ Some b))
   introduction_view t a b e = ((t.name, (tt, (t.linkage, (t.words, t.kind)))), (refl, e))
 
   abbrev linkage_of : Known toks true (optional (leaf toks k.Linkage))
@@ -207,7 +226,8 @@ module _ (toks : List Terminal) where
   abbrev from_linkage : Known toks false (pair (optional (leaf toks k.Linkage)) (pair (many (gword toks)) (leaf toks k.Variable)))
   from_linkage = pair_of linkage_of from_gwords refl
 
-  abbrev from_equals : Known toks false (pair (λ (_ : Unit {0}). the toks k.Equals) (pair (optional (leaf toks k.Linkage)) (pair (many (gword toks)) (leaf toks k.Variable))))
+  abbrev from_equals : Known toks false
+      (pair (λ (_ : Unit {0}). the toks k.Equals) (pair (optional (leaf toks k.Linkage)) (pair (many (gword toks)) (leaf toks k.Variable))))
   from_equals = pair_of (the_of k.Equals) from_linkage refl
 
   abbrev introduction_of : Known toks false (introduced toks)
@@ -222,22 +242,32 @@ module _ (toks : List Terminal) where
 
   module _ (a equals : ℕ) (h : Some equals ≡ the toks k.Global a) where
     pub introduction_no_equals : None ≡ the toks k.Equals equals → Longest (introduced toks) a None
-    introduction_no_equals n = introduction_none a (pair_none (leaf_of k.Global) from_equals refl a equals a (leaf_some toks k.Global a equals h) (pair_stop (the_of k.Equals) from_linkage equals (the_none toks k.Equals equals n)))
+    introduction_no_equals n = introduction_none a (pair_none (leaf_of k.Global) from_equals refl a equals a (leaf_some toks k.Global a equals h)
+        (pair_stop (the_of k.Equals) from_linkage equals (the_none toks k.Equals equals n)))
 
-    module _ (first : ℕ) (h' : Some first ≡ the toks k.Equals equals) (linkage : Option ℕ) (behind : ℕ) (l : Longest (optional (leaf toks k.Linkage)) first (Some (linkage, behind))) (words : List ℕ) (kind : ℕ) (l' : Longest (many (gword toks)) behind (Some (words, kind))) where
+    module _ (first : ℕ) (h' : Some first ≡ the toks k.Equals equals) (linkage : Option ℕ) (behind : ℕ)
+        (l : Longest (optional (leaf toks k.Linkage)) first (Some (
+          linkage,
+          behind,
+        ))) (words : List ℕ) (kind : ℕ) (l' : Longest (many (gword toks)) behind (Some (words, kind))) where
       pub introduction_no_kind : None ≡ the toks k.Variable kind → Longest (introduced toks) a None
       introduction_no_kind n =
           introduction_none a
           (pair_none (leaf_of k.Global) from_equals refl a equals a (leaf_some toks k.Global a equals h)
           (pair_none (the_of k.Equals) from_linkage refl equals first tt (the_some toks k.Equals equals first h')
-          (pair_none linkage_of from_gwords refl first behind linkage l (pair_none gwords_of (leaf_of k.Variable) refl behind kind words l' (leaf_none toks k.Variable kind n)))))
+          (pair_none linkage_of from_gwords refl first behind linkage l (pair_none gwords_of (leaf_of k.Variable) refl behind kind words l'
+          (leaf_none toks k.Variable kind n)))))
 
-      pub introduction_ends : (end : ℕ) → Some end ≡ the toks k.Variable kind → Longest (introduced toks) a (Some (introduction_back (a, (tt, (linkage, (words, kind)))), end))
+      pub introduction_ends : (end : ℕ) → Some end ≡ the toks k.Variable kind →
+          Longest (introduced toks) a (Some (introduction_back (a, (tt, (linkage, (words, kind)))), end))
       introduction_ends end e =
           shape_some (introduced toks) introduction_back introduction_view (λ x a b e. e) {x = (a, (tt, (linkage, (words, kind))))}
           (pair_some (leaf_of k.Global) from_equals refl a equals end a (tt, (linkage, (words, kind))) (leaf_some toks k.Global a equals h)
           (pair_some (the_of k.Equals) from_linkage refl equals first end tt (linkage, (words, kind)) (the_some toks k.Equals equals first h')
-          (pair_some linkage_of from_gwords refl first behind end linkage (words, kind) l (pair_some gwords_of (leaf_of k.Variable) refl behind kind end words kind l' (leaf_some toks k.Variable kind end e)))))
+          (pair_some linkage_of from_gwords refl first behind end linkage (
+            words,
+            kind,
+          ) l (pair_some gwords_of (leaf_of k.Variable) refl behind kind end words kind l' (leaf_some toks k.Variable kind end e)))))
 
   -- ---- the type and what stands behind it
   abbrev ContentsShape : Type 0
@@ -289,16 +319,34 @@ module _ (toks : List Terminal) where
   GlobalShape = Introduction × Contents
 
   abbrev global_back : GlobalShape → GlobalVar
-  global_back x = record { name = x.0.name; linkage = x.0.linkage; words = x.0.words; kind = x.0.kind; ty = x.1.ty; initial = x.1.initial; tails = x.1.tails; groups = x.1.groups }
+  global_back x = record {
+    name = x.0.name;
+    linkage = x.0.linkage;
+    words = x.0.words;
+    kind = x.0.kind;
+    ty = x.1.ty;
+    initial = x.1.initial;
+    tails = x.1.tails;
+    groups = x.1.groups;
+  }
 
   abbrev global_parts : GlobalVar → GlobalShape
-  global_parts t = (record { name = t.name; linkage = t.linkage; words = t.words; kind = t.kind }, record { ty = t.ty; initial = t.initial; tails = t.tails; groups = t.groups })
+  global_parts t = (
+    record { name = t.name; linkage = t.linkage; words = t.words; kind = t.kind },
+    record {
+      ty = t.ty;
+      initial = t.initial;
+      tails = t.tails;
+      groups = t.groups;
+    },
+  )
 
   abbrev global_shape : GlobalShape → Step
   global_shape = pair (introduced toks) (typed toks)
 
   global_grouped : (t : GlobalVar) (a : ℕ) → global_var toks t a ≡ global_shape (global_parts t) a
-  global_grouped t a = ap (λ z. z a) (five (leaf toks k.Global t.name) (the toks k.Equals) (optional (leaf toks k.Linkage) t.linkage) (many (gword toks) t.words) (leaf toks k.Variable t.kind) (typed toks (global_parts t).1))
+  global_grouped t a = ap (λ z. z a) (five (leaf toks k.Global t.name) (the toks k.Equals) (optional (leaf toks k.Linkage) t.linkage)
+      (many (gword toks) t.words) (leaf toks k.Variable t.kind) (typed toks (global_parts t).1))
 
   global_view : (t : GlobalVar) (a b : ℕ) → global_var toks t a ≡ Some b → (x : GlobalShape) × ((global_back x ≡ t) × (global_shape x a ≡ Some b))
   global_view t a b e = (global_parts t, (refl, sym (global_grouped t a) ∙ e))
@@ -311,9 +359,11 @@ module _ (toks : List Terminal) where
 
   module _ (a first : ℕ) (introduction : Introduction) (l : Longest (introduced toks) a (Some (introduction, first))) where
     pub global_no_contents : Longest (typed toks) first None → Longest (global_var toks) a None
-    global_no_contents n = shape_none (global_var toks) global_back global_view global_unview (pair_none introduction_of contents_of refl a first introduction l n)
+    global_no_contents n = shape_none (global_var toks) global_back global_view global_unview (pair_none introduction_of contents_of refl a first introduction l
+        n)
 
-    pub global_ends : (contents : Contents) (end : ℕ) → Longest (typed toks) first (Some (contents, end)) → Longest (global_var toks) a (Some (global_back (introduction, contents), end))
+    pub global_ends : (contents : Contents) (end : ℕ) → Longest (typed toks) first (Some (contents, end)) →
+        Longest (global_var toks) a (Some (global_back (introduction, contents), end))
     global_ends contents end n =
         shape_some (global_var toks) global_back global_view global_unview {x = (introduction, contents)}
         (pair_some introduction_of contents_of refl a first end introduction contents l n)

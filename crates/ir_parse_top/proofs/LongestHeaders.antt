@@ -25,8 +25,10 @@ use Rattle.ir_tree.proofs.Known.{Known, leaf_of, the_of, pair_of, choice_of, opt
 use Rattle.ir_tree.proofs.ClearTypes.{ty_of}
 use Rattle.ir_tree.proofs.ClearConstants.{tconst_of}
 use Rattle.ir_tree.proofs.ClearAttributes.{cc_of, rattr_of, word_of, comdat_of, attach_of}
-use Rattle.ir_tree.proofs.ClearHeaders.{ParamsShape, params_back, params_shape, params_view, FtailShape, ftail_back, ftail_shape, ftail_view, param_of, params_of, ftail_of}
-use Rattle.ir_parse_parts.proofs.Longest.{leaf_some, leaf_none, the_some, the_none, choice_left, choice_right, choice_none, optional_some, optional_none, pair_some, pair_none, pair_stop, shape_some, shape_none, listed_some, listed_none}
+use Rattle.ir_tree.proofs.ClearHeaders.{ParamsShape, params_back, params_shape, params_view, FtailShape, ftail_back, ftail_shape, ftail_view, param_of}
+use Rattle.ir_tree.proofs.ClearHeaders.{params_of, ftail_of}
+use Rattle.ir_parse_parts.proofs.Longest.{leaf_some, leaf_none, the_some, the_none, choice_left, choice_right, choice_none, optional_some, optional_none}
+use Rattle.ir_parse_parts.proofs.Longest.{pair_some, pair_none, pair_stop, shape_some, shape_none, listed_some, listed_none}
 use Rattle.ir_parse_top.specs.declared.headers.Opening.{Opening}
 use Rattle.ir_parse_top.specs.declared.headers.Signature.{Signature}
 use Rattle.ir_parse_top.specs.declared.headers.Ending.{Ending}
@@ -56,7 +58,9 @@ module _ (toks : List Terminal) where
   pub param_no_type : (a : ℕ) → Longest (ty toks) a None → Longest (param toks) a None
   param_no_type a n = shape_none (param toks) param_back param_view (λ x a b e. e) (pair_stop (ty_of toks) worded_of a n)
 
-  pub param_ends : (a first behind end : ℕ) (kind : Ty) (words : List Rattr) (name : Option ℕ) → Longest (ty toks) a (Some (kind, first)) → Longest (many (rattr toks)) first (Some (words, behind)) → Longest (optional (leaf toks k.Local)) behind (Some (name, end)) → Longest (param toks) a (Some (param_back (kind, (words, name)), end))
+  pub param_ends : (a first behind end : ℕ) (kind : Ty) (words : List Rattr) (name : Option ℕ) → Longest (ty toks) a (Some (kind, first)) →
+      Longest (many (rattr toks)) first (Some (words, behind)) → Longest (optional (leaf toks k.Local)) behind (Some (name, end)) →
+      Longest (param toks) a (Some (param_back (kind, (words, name)), end))
   param_ends a first behind end kind words name l l' l'' =
       shape_some (param toks) param_back param_view (λ x a b e. e) {x = (kind, (words, name))}
       (pair_some (ty_of toks) worded_of refl a first end kind (words, name) l (pair_some words_of name_of refl first behind end words name l' l''))
@@ -81,19 +85,27 @@ module _ (toks : List Terminal) where
 
   module _ (a : ℕ) where
     pub params_dots : (n : ℕ) → Some n ≡ the toks k.Dots a → Longest (params toks) a (Some (params_is.Dots a, n))
-    params_dots n h = shape_some (params toks) params_back (params_view toks) params_unview {x = Some (inl a)} (optional_some written_part a n (inl a) (choice_left (leaf_of k.Dots) all_part refl a n a (leaf_some toks k.Dots a n h)))
+    params_dots n h = shape_some (params toks) params_back (params_view toks) params_unview {x =
+        Some (inl a)} (optional_some written_part a n (inl a) (choice_left (leaf_of k.Dots) all_part refl a n a (leaf_some toks k.Dots a n h)))
 
     pub params_empty : None ≡ the toks k.Dots a → Longest (param toks) a None → Longest (params toks) a (Some (params_is.Empty, a))
     params_empty h l =
         shape_some (params toks) params_back (params_view toks) params_unview {x = None}
         (optional_none (choice (leaf toks k.Dots) (pair (listed toks (param toks)) (optional (next toks (leaf toks k.Dots))))) a
-        (choice_none (leaf toks k.Dots) (pair (listed toks (param toks)) (optional (next toks (leaf toks k.Dots)))) a (leaf_none toks k.Dots a h) (pair_stop (listed_of (param_of toks) refl) last_dots a (listed_none toks (param toks) a l))))
+        (choice_none (leaf toks k.Dots) (pair (listed toks (param toks)) (optional (next toks (leaf toks k.Dots)))) a (leaf_none toks k.Dots a h)
+        (pair_stop (listed_of (param_of toks) refl) last_dots a (listed_none toks (param toks) a l))))
 
-    pub params_all : (m behind n : ℕ) (t : Param) (ts : List Param) (dots : Option ℕ) → Longest (param toks) a (Some (t, m)) → Longest (many (next toks (param toks))) m (Some (ts, behind)) → Longest (optional (next toks (leaf toks k.Dots))) behind (Some (dots, n)) → Longest (params toks) a (Some (params_is.Listed (t ∷ ts) dots, n))
+    pub params_all : (m behind n : ℕ) (t : Param) (ts : List Param) (dots : Option ℕ) → Longest (param toks) a (Some (t, m)) →
+        Longest (many (next toks (param toks))) m (Some (ts, behind)) → Longest (optional (next toks (leaf toks k.Dots))) behind (Some (dots, n)) →
+        Longest (params toks) a (Some (params_is.Listed (t ∷ ts) dots, n))
     params_all m behind n t ts dots l rest last =
         shape_some (params toks) params_back (params_view toks) params_unview {x = Some (inr (t ∷ ts, dots))}
         (optional_some written_part a n (inr (t ∷ ts, dots))
-        (choice_right (leaf_of k.Dots) all_part refl a n (t ∷ ts, dots) (pair_some (listed_of (param_of toks) refl) last_dots refl a behind n (t ∷ ts) dots (listed_some (param_of toks) refl a m behind t ts l rest) last)))
+        (choice_right (leaf_of k.Dots) all_part refl a n (
+          t ∷ ts,
+          dots,
+        ) (pair_some (listed_of (param_of toks) refl) last_dots refl a behind n (t ∷ ts) dots (listed_some (param_of toks) refl a m behind t ts l rest)
+        last)))
 
   -- ---- `ftail`
   ftail_unview : (x : FtailShape) (a b : ℕ) → ftail_shape toks x a ≡ Some b → ftail toks (ftail_back x) a ≡ Some b
@@ -129,10 +141,13 @@ module _ (toks : List Terminal) where
   abbrev from_align : Known toks false (choice (leaf_pair toks k.Align k.Int) (choice (comdat toks) (choice (extra toks) (attach toks))))
   from_align = choice_of align_part from_comdat refl
 
-  abbrev from_gc : Known toks false (choice (leaf_pair toks k.Gc k.Str) (choice (leaf_pair toks k.Align k.Int) (choice (comdat toks) (choice (extra toks) (attach toks)))))
+  abbrev from_gc : Known toks false
+      (choice (leaf_pair toks k.Gc k.Str) (choice (leaf_pair toks k.Align k.Int) (choice (comdat toks) (choice (extra toks) (attach toks)))))
   from_gc = choice_of gc_part from_align refl
 
-  abbrev from_partition : Known toks false (choice (leaf_pair toks k.Partition k.Str) (choice (leaf_pair toks k.Gc k.Str) (choice (leaf_pair toks k.Align k.Int) (choice (comdat toks) (choice (extra toks) (attach toks))))))
+  abbrev from_partition : Known toks false
+      (choice (leaf_pair toks k.Partition k.Str)
+      (choice (leaf_pair toks k.Gc k.Str) (choice (leaf_pair toks k.Align k.Int) (choice (comdat toks) (choice (extra toks) (attach toks))))))
   from_partition = choice_of partition_part from_gc refl
 
   module _ (a n : ℕ) where
@@ -140,24 +155,29 @@ module _ (toks : List Terminal) where
     ftail_by x l = shape_some (ftail toks) ftail_back (ftail_view toks) ftail_unview {x = x} l
 
     -- one of the tails behind the section, the partition, the collector and the alignment
-    later_by : (x : Comdat ⊎ ((ℕ × Tconst) ⊎ Attach)) → Longest (choice (comdat toks) (choice (extra toks) (attach toks))) a (Some (x, n)) → Longest (ftail toks) a (Some (ftail_back (inr (inr (inr (inr x)))), n))
+    later_by : (x : Comdat ⊎ ((ℕ × Tconst) ⊎ Attach)) → Longest (choice (comdat toks) (choice (extra toks) (attach toks))) a (Some (x, n)) →
+        Longest (ftail toks) a (Some (ftail_back (inr (inr (inr (inr x)))), n))
     later_by x l =
         ftail_by (inr (inr (inr (inr x))))
-        (choice_right section_part from_partition refl a n (inr (inr (inr x))) (choice_right partition_part from_gc refl a n (inr (inr x)) (choice_right gc_part from_align refl a n (inr x) (choice_right align_part from_comdat refl a n x l))))
+        (choice_right section_part from_partition refl a n (inr (inr (inr x))) (choice_right partition_part from_gc refl a n (inr (inr x))
+        (choice_right gc_part from_align refl a n (inr x) (choice_right align_part from_comdat refl a n x l))))
 
     pub ftail_section : (x : ℕ × ℕ) → Longest (leaf_pair toks k.Section k.Str) a (Some (x, n)) → Longest (ftail toks) a (Some (ftail_is.Section x.0 x.1, n))
     ftail_section x l = ftail_by (inl x) (choice_left section_part from_partition refl a n x l)
 
-    pub ftail_partition : (x : ℕ × ℕ) → Longest (leaf_pair toks k.Partition k.Str) a (Some (x, n)) → Longest (ftail toks) a (Some (ftail_is.Partition x.0 x.1, n))
+    pub ftail_partition : (x : ℕ × ℕ) → Longest (leaf_pair toks k.Partition k.Str) a (Some (x, n)) →
+        Longest (ftail toks) a (Some (ftail_is.Partition x.0 x.1, n))
     ftail_partition x l = ftail_by (inr (inl x)) (choice_right section_part from_partition refl a n (inl x) (choice_left partition_part from_gc refl a n x l))
 
     pub ftail_gc : (x : ℕ × ℕ) → Longest (leaf_pair toks k.Gc k.Str) a (Some (x, n)) → Longest (ftail toks) a (Some (ftail_is.Gc x.0 x.1, n))
-    ftail_gc x l = ftail_by (inr (inr (inl x))) (choice_right section_part from_partition refl a n (inr (inl x)) (choice_right partition_part from_gc refl a n (inl x) (choice_left gc_part from_align refl a n x l)))
+    ftail_gc x l = ftail_by (inr (inr (inl x))) (choice_right section_part from_partition refl a n (inr (inl x))
+        (choice_right partition_part from_gc refl a n (inl x) (choice_left gc_part from_align refl a n x l)))
 
     pub ftail_align : (x : ℕ × ℕ) → Longest (leaf_pair toks k.Align k.Int) a (Some (x, n)) → Longest (ftail toks) a (Some (ftail_is.Align x.0 x.1, n))
     ftail_align x l =
         ftail_by (inr (inr (inr (inl x))))
-        (choice_right section_part from_partition refl a n (inr (inr (inl x))) (choice_right partition_part from_gc refl a n (inr (inl x)) (choice_right gc_part from_align refl a n (inl x) (choice_left align_part from_comdat refl a n x l))))
+        (choice_right section_part from_partition refl a n (inr (inr (inl x))) (choice_right partition_part from_gc refl a n (inr (inl x))
+        (choice_right gc_part from_align refl a n (inl x) (choice_left align_part from_comdat refl a n x l))))
 
     pub ftail_comdat : (x : Comdat) → Longest (comdat toks) a (Some (x, n)) → Longest (ftail toks) a (Some (ftail_is.Comdat x, n))
     ftail_comdat x l = later_by (inl x) (choice_left (comdat_of toks) from_extra refl a n x l)
@@ -166,9 +186,12 @@ module _ (toks : List Terminal) where
     ftail_extra x l = later_by (inr (inl x)) (choice_right (comdat_of toks) from_extra refl a n (inl x) (choice_left extra_part (attach_of toks) refl a n x l))
 
     pub ftail_attach : (x : Attach) → Longest (attach toks) a (Some (x, n)) → Longest (ftail toks) a (Some (ftail_is.Attach x, n))
-    ftail_attach x l = later_by (inr (inr x)) (choice_right (comdat_of toks) from_extra refl a n (inr x) (choice_right extra_part (attach_of toks) refl a n x l))
+    ftail_attach x l = later_by (inr (inr x)) (choice_right (comdat_of toks) from_extra refl a n (inr x)
+        (choice_right extra_part (attach_of toks) refl a n x l))
 
-  pub ftail_none : (a : ℕ) → Longest (leaf_pair toks k.Section k.Str) a None → Longest (leaf_pair toks k.Partition k.Str) a None → Longest (leaf_pair toks k.Gc k.Str) a None → Longest (leaf_pair toks k.Align k.Int) a None → Longest (comdat toks) a None → Longest (attach toks) a None → Longest (extra toks) a None → Longest (ftail toks) a None
+  pub ftail_none : (a : ℕ) → Longest (leaf_pair toks k.Section k.Str) a None → Longest (leaf_pair toks k.Partition k.Str) a None →
+      Longest (leaf_pair toks k.Gc k.Str) a None → Longest (leaf_pair toks k.Align k.Int) a None → Longest (comdat toks) a None → Longest (attach toks) a None →
+      Longest (extra toks) a None → Longest (ftail toks) a None
   ftail_none a section partition gc align named attached other = go
     where
       go : (u : Ftail) (c : ℕ) → ftail toks u a ≡ Some c → ⊥
@@ -224,18 +247,32 @@ module _ (toks : List Terminal) where
   abbrev opening_of : Known toks false (before_name toks)
   opening_of = shape_of opening_back opening_view (pair_of linkage_of from_hwords refl)
 
-  module _ (a first : ℕ) (linkage : Option ℕ) (l : Longest (optional (leaf toks k.Linkage)) a (Some (linkage, first))) (convention : ℕ) (words : List ℕ) (l' : Longest (many (leaf toks k.Hword)) first (Some (words, convention))) (place : ℕ) (found : Option Cc) (l'' : Longest (optional (cc toks)) convention (Some (found, place))) (kind : ℕ) (attributes : List Rattr) (l''' : Longest (many (rattr toks)) place (Some (attributes, kind))) where
+  module _ (a first : ℕ) (linkage : Option ℕ) (l : Longest (optional (leaf toks k.Linkage)) a (Some (
+    linkage,
+    first,
+  ))) (convention : ℕ) (words : List ℕ) (l' : Longest (many (leaf toks k.Hword)) first (Some (
+    words,
+    convention,
+  ))) (place : ℕ) (found : Option Cc) (l'' : Longest (optional (cc toks)) convention (Some (
+    found,
+    place,
+  ))) (kind : ℕ) (attributes : List Rattr) (l''' : Longest (many (rattr toks)) place (Some (attributes, kind))) where
     pub opening_no_type : Longest (ty toks) kind None → Longest (before_name toks) a None
     opening_no_type n =
         shape_none (before_name toks) opening_back opening_view (λ x a b e. e)
-        (pair_none linkage_of from_hwords refl a first linkage l (pair_none hwords_of from_convention refl first convention words l' (pair_none convention_of from_attributes refl convention place found l'' (pair_none words_of (ty_of toks) refl place kind attributes l''' n))))
+        (pair_none linkage_of from_hwords refl a first linkage l (pair_none hwords_of from_convention refl first convention words l'
+        (pair_none convention_of from_attributes refl convention place found l'' (pair_none words_of (ty_of toks) refl place kind attributes l''' n))))
 
-    pub opening_ends : (result : Ty) (end : ℕ) → Longest (ty toks) kind (Some (result, end)) → Longest (before_name toks) a (Some (opening_back (linkage, (words, (found, (attributes, result)))), end))
+    pub opening_ends : (result : Ty) (end : ℕ) → Longest (ty toks) kind (Some (result, end)) →
+        Longest (before_name toks) a (Some (opening_back (linkage, (words, (found, (attributes, result)))), end))
     opening_ends result end n =
         shape_some (before_name toks) opening_back opening_view (λ x a b e. e) {x = (linkage, (words, (found, (attributes, result))))}
         (pair_some linkage_of from_hwords refl a first end linkage (words, (found, (attributes, result))) l
         (pair_some hwords_of from_convention refl first convention end words (found, (attributes, result)) l'
-        (pair_some convention_of from_attributes refl convention place end found (attributes, result) l'' (pair_some words_of (ty_of toks) refl place kind end attributes result l''' n))))
+        (pair_some convention_of from_attributes refl convention place end found (
+          attributes,
+          result,
+        ) l'' (pair_some words_of (ty_of toks) refl place kind end attributes result l''' n))))
 
   -- ---- the name and the parameters
   abbrev SignatureShape : Type 0
@@ -268,16 +305,19 @@ module _ (toks : List Terminal) where
 
   module _ (a paren : ℕ) (h : Some paren ≡ the toks k.Global a) where
     pub signature_no_open : None ≡ the toks k.LeftParen paren → Longest (named_params toks) a None
-    signature_no_open n = signature_none a (pair_none (leaf_of k.Global) from_open refl a paren a (leaf_some toks k.Global a paren h) (pair_stop (the_of k.LeftParen) from_params paren (the_none toks k.LeftParen paren n)))
+    signature_no_open n = signature_none a (pair_none (leaf_of k.Global) from_open refl a paren a (leaf_some toks k.Global a paren h)
+        (pair_stop (the_of k.LeftParen) from_params paren (the_none toks k.LeftParen paren n)))
 
     module _ (first : ℕ) (h' : Some first ≡ the toks k.LeftParen paren) (all : Params) (close : ℕ) (l : Longest (params toks) first (Some (all, close))) where
       pub signature_no_close : None ≡ the toks k.RightParen close → Longest (named_params toks) a None
       signature_no_close n =
           signature_none a
           (pair_none (leaf_of k.Global) from_open refl a paren a (leaf_some toks k.Global a paren h)
-          (pair_none (the_of k.LeftParen) from_params refl paren first tt (the_some toks k.LeftParen paren first h') (pair_none (params_of toks) (leaf_of k.RightParen) refl first close all l (leaf_none toks k.RightParen close n))))
+          (pair_none (the_of k.LeftParen) from_params refl paren first tt (the_some toks k.LeftParen paren first h')
+          (pair_none (params_of toks) (leaf_of k.RightParen) refl first close all l (leaf_none toks k.RightParen close n))))
 
-      pub signature_ends : (end : ℕ) → Some end ≡ the toks k.RightParen close → Longest (named_params toks) a (Some (signature_back (a, (tt, (all, close))), end))
+      pub signature_ends : (end : ℕ) → Some end ≡ the toks k.RightParen close →
+          Longest (named_params toks) a (Some (signature_back (a, (tt, (all, close))), end))
       signature_ends end e =
           shape_some (named_params toks) signature_back signature_view (λ x a b e. e) {x = (a, (tt, (all, close)))}
           (pair_some (leaf_of k.Global) from_open refl a paren end a (tt, (all, close)) (leaf_some toks k.Global a paren h)
@@ -312,10 +352,15 @@ module _ (toks : List Terminal) where
   abbrev ending_of : Known toks true (behind_params toks)
   ending_of = shape_of ending_back ending_view (pair_of unnamed_of from_words refl)
 
-  pub ending_ends : (a first behind end : ℕ) (unnamed : Option ℕ) (attributes : List Word) (tails : List Ftail) → Longest (optional (leaf toks k.Unnamed)) a (Some (unnamed, first)) → Longest (many (word toks)) first (Some (attributes, behind)) → Longest (many (ftail toks)) behind (Some (tails, end)) → Longest (behind_params toks) a (Some (ending_back (unnamed, (attributes, tails)), end))
+  pub ending_ends : (a first behind end : ℕ) (unnamed : Option ℕ) (attributes : List Word) (tails : List Ftail) →
+      Longest (optional (leaf toks k.Unnamed)) a (Some (unnamed, first)) → Longest (many (word toks)) first (Some (attributes, behind)) →
+      Longest (many (ftail toks)) behind (Some (tails, end)) → Longest (behind_params toks) a (Some (ending_back (unnamed, (attributes, tails)), end))
   ending_ends a first behind end unnamed attributes tails l l' l'' =
       shape_some (behind_params toks) ending_back ending_view (λ x a b e. e) {x = (unnamed, (attributes, tails))}
-      (pair_some unnamed_of from_words refl a first end unnamed (attributes, tails) l (pair_some attributes_of tails_of refl first behind end attributes tails l' l''))
+      (pair_some unnamed_of from_words refl a first end unnamed (
+        attributes,
+        tails,
+      ) l (pair_some attributes_of tails_of refl first behind end attributes tails l' l''))
 
   -- ---- `header`
   abbrev HeaderShape : Type 0
@@ -337,7 +382,10 @@ module _ (toks : List Terminal) where
   }
 
   abbrev header_parts : Header → HeaderShape
-  header_parts t = (record { linkage = t.linkage; words = t.words; cc = t.cc; result_words = t.result_words; result = t.result }, (record { name = t.name; params = t.params; close = t.close }, record { unnamed = t.unnamed; attributes = t.attributes; tails = t.tails }))
+  header_parts t = (
+    record { linkage = t.linkage; words = t.words; cc = t.cc; result_words = t.result_words; result = t.result },
+    (record { name = t.name; params = t.params; close = t.close }, record { unnamed = t.unnamed; attributes = t.attributes; tails = t.tails }),
+  )
 
   abbrev header_shape : HeaderShape → Step
   header_shape = pair (before_name toks) (pair (named_params toks) (behind_params toks))
@@ -345,10 +393,12 @@ module _ (toks : List Terminal) where
   header_grouped : (t : Header) (a : ℕ) → header toks t a ≡ header_shape (header_parts t) a
   header_grouped t a =
       let p = header_parts t in
-      ap (λ z. (optional (leaf toks k.Linkage) t.linkage ⨾ many (leaf toks k.Hword) t.words ⨾ optional (cc toks) t.cc ⨾ many (rattr toks) t.result_words ⨾ ty toks t.result ⨾ z) a)
+      ap (λ z. (optional (leaf toks k.Linkage) t.linkage ⨾ many (leaf toks k.Hword) t.words ⨾ optional (cc toks) t.cc ⨾ many (rattr toks) t.result_words ⨾ ty
+      toks t.result ⨾ z) a)
       (four (leaf toks k.Global t.name) (the toks k.LeftParen) (params toks t.params) (leaf toks k.RightParen t.close) (behind_params toks p.1.1))
       ∙ ap (λ z. z a)
-      (five (optional (leaf toks k.Linkage) t.linkage) (many (leaf toks k.Hword) t.words) (optional (cc toks) t.cc) (many (rattr toks) t.result_words) (ty toks t.result) (named_params toks p.1.0 ⨾ behind_params toks p.1.1))
+      (five (optional (leaf toks k.Linkage) t.linkage) (many (leaf toks k.Hword) t.words) (optional (cc toks) t.cc) (many (rattr toks) t.result_words)
+      (ty toks t.result) (named_params toks p.1.0 ⨾ behind_params toks p.1.1))
 
   header_view : (t : Header) (a b : ℕ) → header toks t a ≡ Some b → (x : HeaderShape) × ((header_back x ≡ t) × (header_shape x a ≡ Some b))
   header_view t a b e = (header_parts t, (refl, sym (header_grouped t a) ∙ e))
@@ -364,9 +414,14 @@ module _ (toks : List Terminal) where
 
   module _ (a name : ℕ) (opening : Opening) (l : Longest (before_name toks) a (Some (opening, name))) where
     pub header_no_signature : Longest (named_params toks) name None → Longest (header toks) a None
-    header_no_signature n = shape_none (header toks) header_back header_view header_unview (pair_none opening_of from_signature refl a name opening l (pair_stop signature_of ending_of name n))
+    header_no_signature n = shape_none (header toks) header_back header_view header_unview (pair_none opening_of from_signature refl a name opening l
+        (pair_stop signature_of ending_of name n))
 
-    pub header_ends : (signature : Signature) (behind : ℕ) → Longest (named_params toks) name (Some (signature, behind)) → (ending : Ending) (end : ℕ) → Longest (behind_params toks) behind (Some (ending, end)) → Longest (header toks) a (Some (header_back (opening, (signature, ending)), end))
+    pub header_ends : (signature : Signature) (behind : ℕ) → Longest (named_params toks) name (Some (signature, behind)) → (ending : Ending) (end : ℕ) →
+        Longest (behind_params toks) behind (Some (ending, end)) → Longest (header toks) a (Some (header_back (opening, (signature, ending)), end))
     header_ends signature behind l' ending end l'' =
         shape_some (header toks) header_back header_view header_unview {x = (opening, (signature, ending))}
-        (pair_some opening_of from_signature refl a name end opening (signature, ending) l (pair_some signature_of ending_of refl name behind end signature ending l' l''))
+        (pair_some opening_of from_signature refl a name end opening (
+          signature,
+          ending,
+        ) l (pair_some signature_of ending_of refl name behind end signature ending l' l''))

@@ -24,7 +24,8 @@ leaf_pair toks one other x = leaf toks one x.0 ⨾ leaf toks other x.1
 
 -- what stands before a function's name: `[linkage] hword* [cc] rattr* type`
 abbrev pub before_name : List Terminal → Opening → Step
-before_name toks x = optional (leaf toks k.Linkage) x.linkage ⨾ many (leaf toks k.Hword) x.words ⨾ optional (cc toks) x.cc ⨾ many (rattr toks) x.result_words ⨾ ty toks x.result
+before_name toks x = optional (leaf toks k.Linkage) x.linkage ⨾ many (leaf toks k.Hword) x.words ⨾ optional (cc toks) x.cc ⨾ many (rattr toks) x.result_words ⨾
+    ty toks x.result
 
 -- the name and the parameters: `Global '(' params ')'`
 abbrev pub named_params : List Terminal → Signature → Step
@@ -40,7 +41,8 @@ extra toks x = leaf toks k.Extra x.0 ⨾ tconst toks x.1
 
 -- what stands before a global variable's type: `Global '=' [linkage] gword* ('global' | 'constant')`
 abbrev pub introduced : List Terminal → Introduction → Step
-introduced toks x = leaf toks k.Global x.name ⨾ the toks k.Equals ⨾ optional (leaf toks k.Linkage) x.linkage ⨾ many (gword toks) x.words ⨾ leaf toks k.Variable x.kind
+introduced toks x = leaf toks k.Global x.name ⨾ the toks k.Equals ⨾ optional (leaf toks k.Linkage) x.linkage ⨾ many (gword toks) x.words ⨾ leaf toks k.Variable
+    x.kind
 
 -- what stands behind the initial value: `(',' gtail)* Group*`
 abbrev pub behind_initial : List Terminal → List Gtail × List ℕ → Step

@@ -1,6 +1,7 @@
 -- The brackets that are open behind the first tokens, and the greatest number of them.
-use Rattle.std.proofs.Common.{◌≡◌, ℕ, zero, suc, ◌+◌, ◌<◌, ◌≤◌, max, List, [], ◌∷◌, length, take, drop, get_or, refl, sym, ap, ⊎_elim, subst, add-one, arith, drop-cons}
+use Rattle.std.proofs.Common.{◌≡◌, ℕ, zero, suc, ◌+◌, ◌<◌, ◌≤◌, max, List, [], ◌∷◌, length, take, drop, get_or, refl, sym, ap, ⊎_elim, subst, arith}
 use Rattle.std.proofs.lemmas.Bool.{cases_lt}
+use Rattle.std.proofs.lemmas.List.{drop_more}
 use Rattle.ir_token.specs.declared.token.Token.{Token}
 use Rattle.ir_token.specs.Bytes.{Bytes}
 use Rattle.ir_token.specs.Nesting.{mark_at, then_open, open_after, deepest}
@@ -29,6 +30,6 @@ depth_reached b o (t ∷ ts) =
 pub depth_more : (b : Bytes) (o : ℕ) (ts us : List Token) (i mark : ℕ) (d : Token) → us ≡ ts → i < length us
     → mark ≡ mark_at b (get_or us i d).kind (get_or us i d).span.from → deepest b o (drop i ts) ≡ max o (deepest b (then_open o mark) (drop (i + 1) ts))
 depth_more b o ts us i mark d same h is =
-    let front : drop i us ≡ get_or us i d ∷ drop (i + 1) us = rw (add-one i) (drop-cons us i d h) in
+    let front : drop i us ≡ get_or us i d ∷ drop (i + 1) us = drop_more us i d h in
     subst (λ xs. deepest b o (drop i xs) ≡ max o (deepest b (then_open o mark) (drop (i + 1) xs))) same
     (subst (λ m. deepest b o (drop i us) ≡ max o (deepest b (then_open o m) (drop (i + 1) us))) (sym is) (ap (deepest b o) front))

@@ -1,8 +1,9 @@
 -- What a string is read as, one escape after another.
-use Rattle.std.proofs.Common.{◌≡◌, ℕ, suc, ◌+◌, ◌-◌, ◌*◌, ◌<◌, ◌≤◌, min, Bool, true, false, cond, ◌&&◌, ◌⊎◌, inl, inr, eqb, ltb, [], ◌∷◌, length, get_or, take, drop, refl, sym, ap, ◌∙◌, ⊎_elim, add-one, arith, drop-cons, get_or-drop}
+use Rattle.std.proofs.Common.{◌≡◌, ℕ, suc, ◌+◌, ◌-◌, ◌*◌, ◌<◌, ◌≤◌, min, Bool, true, false, cond, ◌&&◌, ◌⊎◌, inl, inr, eqb, ltb, [], ◌∷◌, length, get_or, take}
+use Rattle.std.proofs.Common.{drop, refl, sym, ap, ◌∙◌, ⊎_elim, arith, get_or-drop}
 use Rattle.std.proofs.lemmas.Bool.{cases_lt, ne_eqb, and_parts}
 use Rattle.std.proofs.lemmas.Bool.Decides.{nat_tests}
-use Rattle.std.proofs.lemmas.List.{drop_all}
+use Rattle.std.proofs.lemmas.List.{drop_all, drop_more}
 use Rattle.std.specs.List.{slice_index}
 use Rattle.std.specs.Char.{digit_value}
 use Rattle.std.specs.Str.{bytes_eq}
@@ -13,9 +14,6 @@ use Rattle.std.specs.Str.Parse.{digits_value}
 use Rattle.ir_token.specs.Names.{begins_hex, hex_byte, unescaped_after, unescaped, bytes_of, name_of, read}
 use Rattle.ir_token.specs.Names.Name.{Number, Bytes as Spelled}
 use Rattle.ir_token.specs.LeftOut.{begins_with, are_left, is_left_name}
-
-front : (z : Bytes) (i : ℕ) → i < length z → drop i z ≡ get_or z i 0 ∷ drop (i + 1) z
-front z i h = rw (add-one i) (drop-cons z i 0 h)
 
 not_eqb : (m n : ℕ) → (m ≡ n → ⊥) → eqb m n ≡ false
 not_eqb m n h = ne_eqb m n h
@@ -34,13 +32,13 @@ no_digits v w h = ⊎_elim (λ one. grind (arith, nat_tests)) (λ two. grind (ar
 
 -- a byte that an escape has used is passed over
 used : (z : Bytes) (i n : ℕ) → i < length z → unescaped_after (suc n) (drop i z) ≡ unescaped_after n (drop (i + 1) z)
-used z i n h = ap (unescaped_after (suc n)) (front z i h)
+used z i n h = ap (unescaped_after (suc n)) (drop_more z i 0 h)
 
 at_front : (z : Bytes) (i k : ℕ) → slice_index (drop i z) k ≡ slice_index z (i + k)
 at_front z i k = get_or-drop i z k 0
 
 pub read_other : (z : Bytes) (i : ℕ) → i < length z → eqb (slice_index z i) 92 ≡ false → unescaped (drop i z) ≡ slice_index z i ∷ unescaped (drop (i + 1) z)
-read_other z i h other = let e = ap unescaped (front z i h) in grind (arith, e)
+read_other z i h other = let e = ap unescaped (drop_more z i 0 h) in grind (arith, e)
 
 -- the three ways in which a backslash is read
 first_way : (s t u : Bool) (a b c d : Bytes) → s ≡ true → t ≡ true → cond s (cond t a (cond u b c)) d ≡ a
@@ -64,7 +62,7 @@ read_backslash z i is second within =
     let two : eqb (slice_index (drop (i + 1) z) 0) 92 ≡ true = grind (arith, nat_tests) in
     let same : i + 1 + 1 ≡ i + 2 = omega arith in
     let rest : unescaped_after 1 (drop (i + 1) z) ≡ unescaped (drop (i + 2) z) = used z (i + 1) 0 within ∙ ap (λ n. unescaped (drop n z)) same in
-    ap unescaped (front z i (omega arith))
+    ap unescaped (drop_more z i 0 (omega arith))
     ∙ first_way (eqb (slice_index z i) 92) (eqb (slice_index (drop (i + 1) z) 0) 92) (begins_hex (drop (i + 1) z)) _ _ _ _ one two ∙ ap (λ x. 92 ∷ x) rest
 
 pub read_hex : (z : Bytes) (i high low : ℕ) → i + 2 < length z → slice_index z i ≡ 92 → (slice_index z (i + 1) ≡ 92 → ⊥)
@@ -85,7 +83,7 @@ read_hex z i high low within is other high_is low_is high_small low_small =
     let same : i + 1 + 1 + 1 ≡ i + 3 = omega arith in
     let rest : unescaped_after 2 (drop (i + 1) z) ≡ unescaped (drop (i + 3) z) = used z (i + 1) 1 (omega arith) ∙ used z (i + 1 + 1) 0 (omega arith) ∙ ap
     (λ n. unescaped (drop n z)) same in
-    ap unescaped (front z i (omega arith))
+    ap unescaped (drop_more z i 0 (omega arith))
     ∙ second_way (eqb (slice_index z i) 92) (eqb (slice_index (drop (i + 1) z) 0) 92) (begins_hex (drop (i + 1) z)) _ _ _ _ one two hex ∙ ap
     (λ x. x ∷ unescaped_after 2 (drop (i + 1) z)) value ∙ ap (λ x. (high * 16 + low) ∷ x) rest
 
@@ -102,7 +100,7 @@ read_lone z i high low within is other high_is low_is large =
     let hex : begins_hex (drop (i + 1) z) ≡ false = no_digits (digit_value (slice_index (drop (i + 1) z) 0)) (digit_value (slice_index (drop (i + 1) z) 1))
     (⊎_elim (λ h. inl (reaches (digit_value (slice_index z (i + 1))) high high_is h (digit_value (slice_index (drop (i + 1) z) 0)) high_value))
     (λ h. inr (reaches (digit_value (slice_index z (i + 2))) low low_is h (digit_value (slice_index (drop (i + 1) z) 1)) low_value)) large) in
-    ap unescaped (front z i within)
+    ap unescaped (drop_more z i 0 within)
     ∙ third_way (eqb (slice_index z i) 92) (eqb (slice_index (drop (i + 1) z) 0) 92) (begins_hex (drop (i + 1) z)) _ _ _ _ one two hex ∙ ap
     (λ x. x ∷ unescaped (drop (i + 1) z)) is
 
@@ -118,11 +116,11 @@ read_end quoted z i h = ap (read quoted) (drop_all i z h) ∙ read_none quoted
 pub read_bare : (quoted : Bool) (z : Bytes) (i : ℕ) → i < length z → (quoted ≡ true → slice_index z i ≡ 92 → ⊥)
     → read quoted (drop i z) ≡ slice_index z i ∷ read quoted (drop (i + 1) z)
 read_bare true z i h other = read_other z i h (not_eqb (slice_index z i) 92 (other refl))
-read_bare false z i h other = front z i h
+read_bare false z i h other = drop_more z i 0 h
 
 pub read_some : (quoted : Bool) (z : Bytes) (i : ℕ) → i < length z → bytes_eq [] (read quoted (drop i z)) ≡ false
-read_some false z i h = ap (bytes_eq []) (front z i h)
-read_some true z i h = ap (λ x. bytes_eq [] (unescaped x)) (front z i h) ∙ not_none (slice_index z i) (drop (i + 1) z)
+read_some false z i h = ap (bytes_eq []) (drop_more z i 0 h)
+read_some true z i h = ap (λ x. bytes_eq [] (unescaped x)) (drop_more z i 0 h) ∙ not_none (slice_index z i) (drop (i + 1) z)
   where
     ways : (s t u : Bool) (a b c d : ℕ) (v w x y : Bytes) → bytes_eq [] (cond s (cond t (a ∷ v) (cond u (b ∷ w) (c ∷ x))) (d ∷ y)) ≡ false
     ways true true u a b c d v w x y = refl
@@ -141,18 +139,18 @@ front_end [] = refl
 front_end (x ∷ w) = refl
 
 pub front_past : (front : Bytes) (i : ℕ) → i < length front → begins_with [] (drop i front) ≡ false
-front_past word i h = ap (begins_with []) (front word i h)
+front_past word i h = ap (begins_with []) (drop_more word i 0 h)
 
 pub front_more : (w rest : Bytes) (c : ℕ) (word : Bytes) (i : ℕ) → w ≡ c ∷ rest → i < length word
     → begins_with w (drop i word) ≡ (eqb c (slice_index word i) && begins_with rest (drop (i + 1) word))
-front_more w rest c word i is h = ap (λ x. begins_with x (drop i word)) is ∙ ap (begins_with (c ∷ rest)) (front word i h)
+front_more w rest c word i is h = ap (λ x. begins_with x (drop i word)) is ∙ ap (begins_with (c ∷ rest)) (drop_more word i 0 h)
 
 pub named_past : (word : Bytes) (i : ℕ) → i < length word → bytes_eq (drop i word) [] ≡ false
-named_past word i h = ap (λ x. bytes_eq x []) (front word i h)
+named_past word i h = ap (λ x. bytes_eq x []) (drop_more word i 0 h)
 
 pub named_more : (w rest : Bytes) (c : ℕ) (word : Bytes) (i : ℕ) → w ≡ c ∷ rest → i < length word
     → bytes_eq (drop i word) w ≡ (eqb (slice_index word i) c && bytes_eq (drop (i + 1) word) rest)
-named_more w rest c word i is h = ap (bytes_eq (drop i word)) is ∙ ap (λ x. bytes_eq x (c ∷ rest)) (front word i h)
+named_more w rest c word i is h = ap (bytes_eq (drop i word)) is ∙ ap (λ x. bytes_eq x (c ∷ rest)) (drop_more word i 0 h)
 
 -- the name ends where its bytes do
 pub named_end : (quoted : Bool) (z word : Bytes) (i k : ℕ) → i ≤ length z → length word ≤ k → eqb i (length z) ≡ bytes_eq (drop k word) (read quoted (drop i z))

@@ -1,6 +1,7 @@
 -- Every text is read as something: at each place there is a token, or none can begin, or a string has no end.
-use Rattle.std.proofs.Common.{◌≡◌, ℕ, zero, suc, ◌+◌, ◌<◌, ◌≤◌, Bool, true, false, not, ◌⊎◌, inl, inr, eqb, Option, None, Some, List, [], ◌∷◌, ◌++◌, length, drop, refl, sym, ap, ◌∙◌, subst, ⊎_elim, arith, length-drop}
-use Rattle.std.proofs.lemmas.Bool.{cases_lt, cases_Bool, cases_eq}
+use Rattle.std.proofs.Common.{◌≡◌, ℕ, zero, suc, ◌+◌, ◌<◌, ◌≤◌, Bool, true, false, not, ◌⊎◌, inl, inr, eqb, Option, None, Some, List, [], ◌∷◌, ◌++◌, length}
+use Rattle.std.proofs.Common.{drop, refl, sym, ap, ◌∙◌, subst, ⊎_elim, arith, length-drop}
+use Rattle.std.proofs.lemmas.Bool.{cases_lt, cases_Bool, cases_eq, both_ways}
 use Rattle.std.proofs.lemmas.Bool.Decides.{nat_tests}
 use Rattle.std.specs.List.{slice_index, slice_range}
 use Rattle.std.specs.Char.{is_ascii_digit}
@@ -149,9 +150,6 @@ order_small Punct = omega arith
 
 -- what stands at a place
 
-never : (t : Bool) → t ≡ true → t ≡ false → ⊥
-never t is is_not = cc
-
 plain_here : (b : Bytes) (i : ℕ) → i < length b → begins_opaque b i ≡ false → lacks_quote b i ≡ false → (found : Found) × StandsByEnds b i found
 plain_here b i h plain closed =
     let top = best (λ k. text_end b i k) 12 (omega arith) in
@@ -160,7 +158,7 @@ plain_here b i h plain closed =
       FoundToken top.0 (text_end b i top.0),
       record {
         within = end_within top.0 b i h;
-        unread = λ begins. absurd (never (begins_opaque b i) begins plain);
+        unread = λ begins. absurd (both_ways (begins_opaque b i) plain begins);
         longest = λ _. (
           record {
             is_one = (moves, refl);
@@ -176,7 +174,7 @@ plain_here b i h plain closed =
       Bad,
       record {
         within = h;
-        unread = λ begins. absurd (never (begins_opaque b i) begins plain);
+        unread = λ begins. absurd (both_ways (begins_opaque b i) plain begins);
         none = λ _.
             (λ k. omega (arith, top.1.greatest k (order_small k)), closed);
       },
@@ -187,13 +185,13 @@ opaque_here : (b : Bytes) (i : ℕ) → i < length b → begins_opaque b i ≡ t
 opaque_here b i h begins = by_end (opaque_end b i) refl
   where
     by_end : (o : Option ℕ) → opaque_end b i ≡ o → (found : Found) × StandsByEnds b i found
-    by_end None ends = (Bad, record { within = h; unread = λ _. ends; none = λ plain. absurd (never (begins_opaque b i) begins plain) })
+    by_end None ends = (Bad, record { within = h; unread = λ _. ends; none = λ plain. absurd (both_ways (begins_opaque b i) plain begins) })
     by_end (Some e) ends = (
       FoundToken Opaque e,
       record {
         within = opaque_within b i e begins ends;
         unread = λ _. (refl, ends);
-        longest = λ plain. absurd (never (begins_opaque b i) begins plain);
+        longest = λ plain. absurd (both_ways (begins_opaque b i) plain begins);
       },
     )
 

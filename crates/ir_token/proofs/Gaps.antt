@@ -1,27 +1,24 @@
 -- Blanks and comments, one byte after another.
-use Rattle.std.proofs.Common.{◌≡◌, ℕ, ◌+◌, ◌<◌, ◌≤◌, Bool, true, false, not, cond, eqb, ◌∷◌, length, get_or, drop, refl, ap, add-one, arith, drop-cons}
-use Rattle.std.proofs.lemmas.List.{drop_all}
+use Rattle.std.proofs.Common.{◌≡◌, ℕ, ◌+◌, ◌<◌, ◌≤◌, Bool, true, false, not, cond, eqb, ◌∷◌, length, drop, refl, ap, arith}
+use Rattle.std.proofs.lemmas.List.{drop_all, drop_more}
 use Rattle.std.proofs.lemmas.Bool.Decides.{nat_tests}
 use Rattle.std.specs.List.{slice_index}
 use Rattle.ir_token.specs.Bytes.{Bytes, is_blank, ends_comment}
 use Rattle.ir_token.specs.LeftOut.{gap_len}
 
-front : (b : Bytes) (i : ℕ) → i < length b → drop i b ≡ get_or b i 0 ∷ drop (i + 1) b
-front b i h = rw (add-one i) (drop-cons b i 0 h)
-
 pub gap_in_comment : (b : Bytes) (i : ℕ) → i < length b → gap_len true (drop i b) ≡ 1 + gap_len (not (ends_comment (slice_index b i))) (drop (i + 1) b)
-gap_in_comment b i h = ap (gap_len true) (front b i h)
+gap_in_comment b i h = ap (gap_len true) (drop_more b i 0 h)
 
 pub gap_comment : (b : Bytes) (i : ℕ) → i < length b → eqb (slice_index b i) 59 ≡ true → gap_len false (drop i b) ≡ 1 + gap_len true (drop (i + 1) b)
-gap_comment b i h is = let e = ap (gap_len false) (front b i h) in grind (arith, e)
+gap_comment b i h is = let e = ap (gap_len false) (drop_more b i 0 h) in grind (arith, e)
 
 pub gap_blank : (b : Bytes) (i : ℕ) → i < length b → is_blank (slice_index b i) ≡ true → gap_len false (drop i b) ≡ 1 + gap_len false (drop (i + 1) b)
 gap_blank b i h is =
     let other : eqb (slice_index b i) 59 ≡ false = grind (arith, nat_tests) in
-    let e = ap (gap_len false) (front b i h) in grind (arith, e)
+    let e = ap (gap_len false) (drop_more b i 0 h) in grind (arith, e)
 
 pub gap_none : (b : Bytes) (i : ℕ) → i < length b → is_blank (slice_index b i) ≡ false → eqb (slice_index b i) 59 ≡ false → gap_len false (drop i b) ≡ 0
-gap_none b i h other bare = let e = ap (gap_len false) (front b i h) in grind (arith, e)
+gap_none b i h other bare = let e = ap (gap_len false) (drop_more b i 0 h) in grind (arith, e)
 
 pub gap_end : (open_comment : Bool) (b : Bytes) (i : ℕ) → length b ≤ i → gap_len open_comment (drop i b) ≡ 0
 gap_end open_comment b i h = ap (gap_len open_comment) (drop_all i b h)

@@ -1,15 +1,19 @@
 -- Where an Opaque begins and ends: each of its parts is a longest run of one class, so its places are functions of the first.
-use Rattle.std.proofs.Common.{◌≡◌, ℕ, ◌+◌, ◌<◌, ◌≤◌, Bool, true, false, cond, ◌&&◌, ◌||◌, ◌⊎◌, inl, inr, eqb, ltb, None, Some, List, [], ◌∷◌, length, drop, refl, sym, ap, ◌∙◌, subst, ⊎_elim, arith, length-drop}
-use Rattle.std.proofs.lemmas.Bool.{cases_lt, cases_Bool, and_parts}
+use Rattle.std.proofs.Common.{◌≡◌, ℕ, ◌+◌, ◌<◌, ◌≤◌, Bool, true, false, cond, ◌&&◌, ◌||◌, ◌⊎◌, inl, inr, eqb, ltb, None, Some, List, [], ◌∷◌, length, drop}
+use Rattle.std.proofs.Common.{refl, sym, ap, ◌∙◌, subst, ⊎_elim, arith, length-drop}
+use Rattle.std.proofs.lemmas.Bool.{cases_lt, cases_Bool, and_parts, and_from}
 use Rattle.std.proofs.lemmas.Bool.Decides.{nat_tests}
 use Rattle.std.proofs.lemmas.List.{get_or_past}
 use Rattle.std.specs.List.{slice_index}
 use Rattle.std.specs.Prelude.{codes}
 use Rattle.std.specs.Char.{is_ascii_digit}
+use Rattle.std.proofs.lemmas.Option.{same_Some, none-some}
 use Rattle.ir_token.specs.declared.token.Kind.TheVariants.{Opaque}
 use Rattle.ir_token.specs.Bytes.{Bytes, is_blank, begins_word, is_word, is_label, is_meta, IsRun, Spells}
 use Rattle.ir_token.specs.Texts.{IsMeta, IsName, IsClosed, BeginsMetadata, IsDistinct, EndsMetadata, EndsRecord, IsComdat, BeginsOpaque, IsOpaque, closes_at}
-use Rattle.ir_token.specs.Ends.{past, name_end, meta_end, spells, closed_end, metadata_equals, begins_metadata, metadata_end, past_distinct, begins_record, comdat_equals, choice_at, begins_choice, begins_comdat, begins_opaque, end_of_metadata, end_of_record, end_of_comdat, opaque_end, place_or, text_end}
+use Rattle.ir_token.specs.Ends.{past, name_end, meta_end, spells, closed_end, metadata_equals, begins_metadata, metadata_end, past_distinct, begins_record}
+use Rattle.ir_token.specs.Ends.{comdat_equals, choice_at, begins_choice, begins_comdat, begins_opaque, end_of_metadata, end_of_record, end_of_comdat}
+use Rattle.ir_token.specs.Ends.{opaque_end, place_or, text_end}
 use Rattle.ir_token.proofs.Past.{within_if, past_within, past_stops, past_moves, run_past, past_run, run_is_past, run_there}
 use Rattle.ir_token.proofs.Meaning.{some_first, string_to, name_is, meta_is, meta_moves, name_moves}
 use Rattle.ir_token.proofs.Closes.{closes_within}
@@ -30,18 +34,6 @@ spells_from (c ∷ w) b i h =
     let rest : spells w b (i + 1) ≡ true = spells_from w b (i + 1) h.1 in
     let here : eqb (slice_index b i) c ≡ true = grind (arith, nat_tests) in
     ap (λ s. s && spells w b (i + 1)) here ∙ rest
-
-both_true : (s t : Bool) → s ≡ true → t ≡ true → (s && t) ≡ true
-both_true s t one two = ap (λ x. x && t) one ∙ two
-
-refuted : (t : Bool) → t ≡ true → t ≡ false → ⊥
-refuted t is is_not = cc
-
-pub some_same : (e f : ℕ) → Some e ≡ Some f → e ≡ f
-some_same e f h = cc
-
-pub none_some : (e : ℕ) → None ≡ Some e → ⊥
-none_some e h = cc
 
 -- the byte behind a run of blanks that ends at a `=` is a blank or `=`
 blank_or_sign : (b : Bytes) (i e : ℕ) → IsRun is_blank b i e → slice_index b e ≡ 61 → (is_blank (slice_index b i) || eqb (slice_index b i) 61) ≡ true
@@ -105,7 +97,7 @@ closed_is b i e h = by_bracket (eqb (slice_index b i) 40 || eqb (slice_index b i
     by_bracket : (t : Bool) → (eqb (slice_index b i) 40 || eqb (slice_index b i) 123) ≡ t → cond t (closes_at 1 false (i + 1) (drop (i + 1) b)) None ≡ Some e
         → IsClosed b i e
     by_bracket true is closes = let bracket : (slice_index b i ≡ 40) ⊎ (slice_index b i ≡ 123) = grind (arith, nat_tests) in (bracket, closes)
-    by_bracket false is closes = absurd (none_some e closes)
+    by_bracket false is closes = absurd (none-some e closes)
 
 pub closed_from : (b : Bytes) (i e : ℕ) → IsClosed b i e → closed_end b i ≡ Some e
 closed_from b i e (either, closes) =
@@ -159,7 +151,7 @@ metadata_from b i rest h =
     let two : ltb (i + 1) (meta_end b (i + 1)) ≡ true = grind (arith, nat_tests) in
     let last : slice_index b (metadata_equals b i) ≡ 61 = ap (slice_index b) place ∙ equal in
     let three : eqb (slice_index b (metadata_equals b i)) 61 ≡ true = grind (arith, nat_tests) in
-    (both_true _ _ (both_true _ _ one two) three, ap (λ n. n + 1) place ∙ sym h.ends)
+    (and_from _ _ (and_from _ _ one two) three, ap (λ n. n + 1) place ∙ sym h.ends)
 
 -- the rest of metadata, by the place where it begins with `distinct` or `!`
 pub rest_is : (b : Bytes) (i e : ℕ) → metadata_end b (past_distinct b (past is_blank b i)) ≡ Some e → EndsMetadata b i e
@@ -184,7 +176,7 @@ rest_is b i e h = by_mark (eqb (slice_index b (past_distinct b (past is_blank b 
               (omega arith);
           part = closed_is b (past is_meta b (past_distinct b (past is_blank b i) + 1)) e closes;
         }
-    by_mark false is closes = absurd (none_some e closes)
+    by_mark false is closes = absurd (none-some e closes)
 
 -- the place of the second mark of metadata
 mark_from : (b : Bytes) (word mark : ℕ) → IsDistinct b word mark → slice_index b mark ≡ 33
@@ -314,8 +306,8 @@ comdat_from b i e h =
     let three : eqb (slice_index b (comdat_equals b i)) 61 ≡ true = grind (arith, nat_tests) in
     let blank : is_blank (slice_index b (h.word + 6)) ≡ true = some_first is_blank b (h.word + 6) h.choice h.apart in
     let letter : begins_word (slice_index b (choice_at b h.word)) ≡ true = ap (λ n. begins_word (slice_index b n)) at.3 ∙ h.letter in
-    let choice : begins_choice b h.word ≡ true = both_true _ _ (both_true _ _ (spells_from (codes "comdat") b h.word h.spelled) blank) letter in
-    both_true _ _ (both_true _ _ (both_true _ _ one two) three) (ap (begins_choice b) at.2 ∙ choice)
+    let choice : begins_choice b h.word ≡ true = and_from _ _ (and_from _ _ (spells_from (codes "comdat") b h.word h.spelled) blank) letter in
+    and_from _ _ (and_from _ _ (and_from _ _ one two) three) (ap (begins_choice b) at.2 ∙ choice)
 
 pub comdat_to : (b : Bytes) (i e : ℕ) → e ≤ length b → IsComdat b i e → end_of_comdat b i ≡ e
 comdat_to b i e within h =
@@ -408,7 +400,7 @@ opaque_text b i e begins ends =
     (λ data'. inl (metadata_equals b i + 1, (metadata_is b i data', rest_is b (metadata_equals b i + 1) e (sym (end_metadata b i data') ∙ ends))))
     (⊎_elim
     (λ debug. inr (inl (spells_is (codes "#dbg_") b i debug, record_is b (i + 5) e (sym (end_record b i debug) ∙ ends))))
-    (λ comdat. let same : end_of_comdat b i ≡ e = some_same (end_of_comdat b i) e (sym (end_comdat b i comdat) ∙ ends) in
+    (λ comdat. let same : end_of_comdat b i ≡ e = same_Some (end_of_comdat b i) e (sym (end_comdat b i comdat) ∙ ends) in
     inr (inr (subst (λ n. IsComdat b i n) same (comdat_is b i comdat)))))
     (which b i begins)
 
@@ -469,7 +461,7 @@ opaque_within b i e begins ends = ⊎_elim data_within (⊎_elim debug_within co
 
     comdat_within : begins_comdat b i ≡ true → e ≤ length b
     comdat_within h =
-        let same : end_of_comdat b i ≡ e = some_same (end_of_comdat b i) e (sym (end_comdat b i h) ∙ ends) in
+        let same : end_of_comdat b i ≡ e = same_Some (end_of_comdat b i) e (sym (end_comdat b i h) ∙ ends) in
         let text = comdat_is b i h in
         let letter : begins_word (slice_index b text.choice) ≡ true = text.letter in
         let some : 0 < slice_index b text.choice = grind (arith, nat_tests, letter) in

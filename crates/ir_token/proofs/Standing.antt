@@ -1,6 +1,7 @@
 -- What is found by the ends at a place is the token there, or that none is there.
-use Rattle.std.proofs.Common.{◌≡◌, ℕ, ◌<◌, ◌≤◌, Bool, true, false, inl, inr, None, length, refl, sym, ◌∙◌, ⊎_elim, subst, arith}
-use Rattle.std.proofs.lemmas.Bool.{cases_Bool}
+use Rattle.std.proofs.Common.{◌≡◌, ℕ, ◌<◌, ◌≤◌, true, false, inl, inr, None, length, refl, sym, ◌∙◌, ⊎_elim, subst, arith}
+use Rattle.std.proofs.lemmas.Bool.{cases_Bool, both_ways}
+use Rattle.std.proofs.lemmas.Option.{none-some}
 use Rattle.ir_token.specs.declared.token.Kind.{Kind}
 use Rattle.ir_token.specs.declared.token.Kind.TheVariants.{Opaque}
 use Rattle.ir_token.specs.declared.found.Found.{Found}
@@ -10,12 +11,8 @@ use Rattle.ir_token.specs.Names.{bears_name}
 use Rattle.ir_token.specs.Texts.{order, IsText, IsLongest, IsOpen, BeginsNone, LacksEnd, IsBad}
 use Rattle.ir_token.specs.Ends.{text_end, begins_opaque, opaque_end, lacks_quote, IsLongestEnd, IsTokenEnd, IsOpenEnd, IsBadEnd, StandsByEnds, Stands}
 use Rattle.ir_token.proofs.Meaning.{lacks_is, lacks_from}
-use Rattle.ir_token.proofs.Opaques.{opaque_is, opaque_from, opaque_text, opaque_to, none_some}
+use Rattle.ir_token.proofs.Opaques.{opaque_is, opaque_from, opaque_text, opaque_to}
 use Rattle.ir_token.proofs.Greatest.{greatest, text_moves}
-
--- a test that is false of what holds
-refuted : (t : Bool) → t ≡ true → t ≡ false → ⊥
-refuted t is is_not = cc
 
 opaque_longest : (b : Bytes) (i : ℕ) (k : Kind) (e : ℕ) → IsTokenEnd b i k e → begins_opaque b i ≡ true → IsLongest b i k e
 opaque_longest b i k e h begins =
@@ -39,8 +36,8 @@ plain_longest b i k e inside h plain =
     record {
       within = h.within;
       text = subst (λ n. IsText k b i n) (sym end) ((greatest k b i inside).is_text moves);
-      unread = λ begins. absurd (refuted (begins_opaque b i) (opaque_from b i begins) plain);
-      closed = λ lacks. absurd (refuted (lacks_quote b i) (lacks_from b i lacks) closed);
+      unread = λ begins. absurd (both_ways (begins_opaque b i) plain (opaque_from b i begins));
+      closed = λ lacks. absurd (both_ways (lacks_quote b i) closed (lacks_from b i lacks));
       longest = λ _ j f within text. omega (arith, (greatest j b i inside).no_further f within text, ends.longest j);
       first = λ j text. let same : e ≡ text_end b i j = omega (arith, (greatest j b i inside).no_further e h.within text, ends.longest j) in ends.first j same;
     }
@@ -52,14 +49,14 @@ longest_here b i k e inside h = ⊎_elim (λ begins. opaque_longest b i k e h be
 
 -- an Opaque that has no end
 lacks_end : (b : Bytes) (i : ℕ) → begins_opaque b i ≡ true → opaque_end b i ≡ None → LacksEnd b i
-lacks_end b i begins none = (opaque_is b i begins, λ e within text. none_some e (sym none ∙ opaque_to b i e within text))
+lacks_end b i begins none = (opaque_is b i begins, λ e within text. none-some e (sym none ∙ opaque_to b i e within text))
 
 -- no text at all
 begins_none : (b : Bytes) (i : ℕ) → i < length b → ((k : Kind) → text_end b i k ≤ i) → lacks_quote b i ≡ false → BeginsNone b i
 begins_none b i inside none closed = record {
   none = λ k e within text. let moves : i < e = text_moves k b i e text in let stays : text_end b i k ≤ i = none k in
       absurd (omega (arith, (greatest k b i inside).no_further e within text));
-  closed = λ lacks. refuted (lacks_quote b i) (lacks_from b i lacks) closed;
+  closed = λ lacks. both_ways (lacks_quote b i) closed (lacks_from b i lacks);
 }
 
 pub bad_here : (b : Bytes) (i : ℕ) → IsBadEnd b i → IsBad b i
@@ -76,7 +73,7 @@ nameless b i k e inside h none = record { within = inside; cause = inr (inr (k, 
 pub open_here : (b : Bytes) (i : ℕ) → IsOpenEnd b i → IsOpen b i
 open_here b i h = record {
   within = h.within;
-  unread = λ begins. refuted (begins_opaque b i) (opaque_from b i begins) h.unread;
+  unread = λ begins. both_ways (begins_opaque b i) h.unread (opaque_from b i begins);
   unclosed = lacks_is b i h.unclosed;
 }
 

@@ -4,6 +4,7 @@ use Rattle.std.proofs.lemmas.Bool.{cases_lt}
 use Rattle.ir_token.specs.declared.token.Kind.{Kind}
 use Rattle.ir_token.specs.declared.token.Kind.TheVariants.{Word, Global, Local, Comdat, Label, Int, Str, CStr, Group, Meta, Punct, Dots, Opaque}
 use Rattle.std.proofs.Common.{Result}
+use Rattle.std.proofs.lemmas.Option.{same_Some}
 use Rattle.ir_token.specs.declared.token.LexRefusal.{LexRefusal}
 use Rattle.ir_token.specs.declared.token.Token.{Token}
 use Rattle.ir_token.specs.Bytes.{Bytes}
@@ -13,7 +14,7 @@ use Rattle.ir_token.specs.LeftOut.{IsLeft}
 use Rattle.ir_token.specs.Lists.{Reaches, AreTokens, IsReached, Reading, Reads, Tells}
 use Rattle.ir_token.specs.Lists.Reading.{Listed, BadAt, OpenAt, LeftAt}
 use Rattle.ir_token.proofs.Greatest.{text_moves}
-use Rattle.ir_token.proofs.Opaques.{opaque_begins, opaque_to, some_same}
+use Rattle.ir_token.proofs.Opaques.{opaque_begins, opaque_to}
 
 -- the kind at a place of the order
 unfoldable pub kind_at : ℕ → Kind
@@ -62,7 +63,7 @@ same_longest b i k j e f h g = ⊎_elim (λ opaque. both_opaque opaque (g.unread
     both_opaque first second =
         let one = opaque_to b i e h.within (as_opaque b i k e first h) in
         let two = opaque_to b i f g.within (as_opaque b i j f second g) in
-        (first ∙ sym second, some_same e f (sym one ∙ two))
+        (first ∙ sym second, same_Some e f (sym one ∙ two))
 
     plain_both : (k ≡ Opaque → ⊥) → (j ≡ Opaque → ⊥) → (k ≡ j) × (e ≡ f)
     plain_both first second =

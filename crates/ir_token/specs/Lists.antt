@@ -13,7 +13,8 @@ use Rattle.ir_token.specs.LeftOut.{past_gap, IsLeft}
 -- them that is in no blank and no comment
 abbrev pub Reaches : Bytes → ℕ → List Token → ℕ → Type 0
 Reaches b at [] to = to ≡ past_gap b at
-Reaches b at (t ∷ ts) to = (t.span.from ≡ past_gap b at) × IsToken b t.span.from t.kind t.span.to × (IsLeft b t.span.from t.kind t.span.to → ⊥) × Reaches b t.span.to ts to
+Reaches b at (t ∷ ts) to = (t.span.from ≡ past_gap b at) × IsToken b t.span.from t.kind t.span.to × (IsLeft b t.span.from t.kind t.span.to → ⊥) ×
+    Reaches b t.span.to ts to
 
 -- the tokens of the whole text
 abbrev pub AreTokens : Bytes → List Token → Type 0

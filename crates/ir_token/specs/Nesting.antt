@@ -13,7 +13,8 @@ mark_at b _ i = 0
 
 -- how many brackets are open behind this mark: `( [ { <` open one, and `) ] } >` close one where one is open
 abbrev pub then_open : ℕ → ℕ → ℕ
-then_open depth c = if (c == 40 || c == 91) || (c == 123 || c == 60) then depth + 1 else (if (c == 41 || c == 93) || (c == 125 || c == 62) then depth - 1 else depth)
+then_open depth c = if (c == 40 || c == 91) || (c == 123 || c == 60) then depth + 1 else (if (c == 41 || c == 93) || (c == 125 || c == 62) then depth - 1 else
+    depth)
 
 -- how many are open behind these tokens, where so many are open before them
 abbrev pub open_after : Bytes → ℕ → List Token → ℕ

@@ -1,5 +1,6 @@
 -- The kinds of token: which stretches of a text are of each kind, in the order in which of two of one length the first is taken.
-use Rattle.std.specs.Prelude.{◌≡◌, ℕ, ◌+◌, ◌<◌, ◌≤◌, Bool, true, false, not, ◌||◌, ◌⊎◌, ◌==◌, if◌then◌else◌, [], ◌∷◌, length, slice_index, drop, codes, Option, None, Some}
+use Rattle.std.specs.Prelude.{◌≡◌, ℕ, ◌+◌, ◌<◌, ◌≤◌, Bool, true, false, not, ◌||◌, ◌⊎◌, ◌==◌, if◌then◌else◌, [], ◌∷◌, length, slice_index, drop, codes, Option}
+use Rattle.std.specs.Prelude.{None, Some}
 use Rattle.std.specs.Char.{is_ascii_digit}
 use Rattle.ir_token.specs.declared.token.Kind.{Kind}
 use Rattle.ir_token.specs.declared.token.Kind.TheVariants.{Word, Global, Local, Comdat, Label, Int, Str, CStr, Group, Meta, Punct, Dots, Opaque}

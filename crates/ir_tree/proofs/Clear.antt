@@ -1,5 +1,6 @@
 -- Productions of which at most one tree fits: how that is shown of a production from its parts.
-use Rattle.std.proofs.Common.{◌≡◌, ℕ, zero, suc, ◌+◌, ◌<◌, ◌≤◌, Bool, true, false, ◌&&◌, eqb, eqb-true, List, [], ◌∷◌, ◌++◌, length, map, Option, None, Some, ◌⊎◌, inl, inr, ⊎_elim, refl, sym, ap, ◌∙◌, subst, arith}
+use Rattle.std.proofs.Common.{◌≡◌, ℕ, zero, suc, ◌+◌, ◌<◌, ◌≤◌, Bool, true, false, ◌&&◌, eqb, eqb-true, List, [], ◌∷◌, ◌++◌, length, map, Option, None, Some}
+use Rattle.std.proofs.Common.{◌⊎◌, inl, inr, ⊎_elim, refl, sym, ap, ◌∙◌, subst, arith}
 use Rattle.ir_tree.specs.declared.terminal.Terminal.{Terminal}
 use Rattle.ir_tree.specs.declared.terminal.Terminal.TheVariants as k
 use Rattle.ir_tree.specs.Steps.{Step, and_then, ◌⨾◌, when, unless, among, sees, stands, the, passing, many, some, optional, next, listed, separated, where_not}
@@ -128,9 +129,14 @@ module _ (toks : List Terminal) where
     -- the first part of the one ends before that of the other
     q_empty : (m b : ℕ) → At toks more m → Opened first' empty' m b → (b ≡ m) × At toks (more' ++ given empty' more) b
     q_empty m b h (inl o) = absurd (at_clash toks more first' m told h o.1)
-    q_empty m b h (inr o) = (o.0, at_right toks more' (given empty' more) b (subst (λ x. At toks (given x more) b) (sym o.1) (subst (λ x. At toks more x) (sym o.0) h)))
+    q_empty m b h (inr o) = (
+      o.0,
+      at_right toks more' (given empty' more) b
+          (subst (λ x. At toks (given x more) b) (sym o.1) (subst (λ x. At toks more x) (sym o.0) h)),
+    )
 
-    q_shorter : (t t' : T) (u u' : U) (m n b c : ℕ) → p t a ≡ Some m → p t' a ≡ Some n → q u m ≡ Some b → q u' n ≡ Some c → m < n → At toks more m → (b < c) × At toks (more' ++ given empty' more) b
+    q_shorter : (t t' : T) (u u' : U) (m n b c : ℕ) → p t a ≡ Some m → p t' a ≡ Some n → q u m ≡ Some b → q u' n ≡ Some c → m < n → At toks more m → (b < c) ×
+        At toks (more' ++ given empty' more) b
     q_shorter t t' u u' m n b c et et' eu eu' less h =
         let here = q_empty m b h ((q_from t m et).opens u b eu) in
         let ends : n ≤ c = q_ends u' t' n c et' eu' in
@@ -142,7 +148,8 @@ module _ (toks : List Terminal) where
         let sy = split (p y.0 a) (q y.1) c ey in
         go sx.0 sy.0 sx.1.0 sy.1.0 sx.1.1 sy.1.1 (of_p.clear x.0 y.0 sx.0 sy.0 sx.1.0 sy.1.0)
       where
-        go : (m n : ℕ) → p x.0 a ≡ Some m → p y.0 a ≡ Some n → q x.1 m ≡ Some b → q y.1 n ≡ Some c → Told (x.0 ≡ y.0) more m n → Told (x ≡ y) (more' ++ given empty' more) b c
+        go : (m n : ℕ) → p x.0 a ≡ Some m → p y.0 a ≡ Some n → q x.1 m ≡ Some b → q y.1 n ≡ Some c → Told (x.0 ≡ y.0) more m n →
+            Told (x ≡ y) (more' ++ given empty' more) b c
         go m n et et' eu eu' (inl same) =
             let place : n ≡ m = some_same n m (sym et' ∙ ap (λ z. p z a) (sym same) ∙ et) in
             told_as more' (more' ++ given empty' more) b c (λ e i. (same i, e i)) (λ i h. at_left toks more' (given empty' more) i h)
@@ -157,7 +164,10 @@ module _ (toks : List Terminal) where
       where
         go : (m : ℕ) → q x.1 m ≡ Some b → Opened first empty a m → Opened first' empty' m b → Opened (first ++ given empty first') (empty && empty') a b
         go m eu (inl h) o = let up : m ≤ b = rises first' empty' m b o in inl (omega (arith, h.0, up), at_left toks first (given empty first') a h.1)
-        go m eu (inr h) (inl o) = inl (omega (arith, h.0, o.0), at_right toks first (given empty first') a (subst (λ x. At toks (given x first') a) (sym h.1) (subst (λ x. At toks first' x) h.0 o.1)))
+        go m eu (inr h) (inl o) = inl (
+          omega (arith, h.0, o.0),
+          at_right toks first (given empty first') a (subst (λ x. At toks (given x first') a) (sym h.1) (subst (λ x. At toks first' x) h.0 o.1)),
+        )
         go m eu (inr h) (inr o) = inr (o.0 ∙ h.0, ap (λ x. x && empty') h.1 ∙ o.1)
 
     pub pair_reads : Reads (pair p q) (first ++ given empty first') (more' ++ given empty' more) (empty && empty') a
@@ -175,8 +185,10 @@ module _ (toks : List Terminal) where
     choice_clear : (x y : T ⊎ U) (b c : ℕ) → choice p q x a ≡ Some b → choice p q y a ≡ Some c → Told (x ≡ y) (more ++ more') b c
     choice_clear (inl t) (inl u) b c et eu = told_as more (more ++ more') b c (λ e. ap inl e) (λ i h. at_left toks more more' i h) (of_p.clear t u b c et eu)
     choice_clear (inr t) (inr u) b c et eu = told_as more' (more ++ more') b c (λ e. ap inr e) (λ i h. at_right toks more more' i h) (of_q.clear t u b c et eu)
-    choice_clear (inl t) (inr u) b c et eu = absurd (at_clash toks first first' a told (moves first a b (of_p.opens t b et)).1 (moves first' a c (of_q.opens u c eu)).1)
-    choice_clear (inr t) (inl u) b c et eu = absurd (at_clash toks first first' a told (moves first a c (of_p.opens u c eu)).1 (moves first' a b (of_q.opens t b et)).1)
+    choice_clear (inl t) (inr u) b c et eu =
+        absurd (at_clash toks first first' a told (moves first a b (of_p.opens t b et)).1 (moves first' a c (of_q.opens u c eu)).1)
+    choice_clear (inr t) (inl u) b c et eu =
+        absurd (at_clash toks first first' a told (moves first a c (of_p.opens u c eu)).1 (moves first' a b (of_q.opens t b et)).1)
 
     choice_opens : (x : T ⊎ U) (b : ℕ) → choice p q x a ≡ Some b → Opened (first ++ first') false a b
     choice_opens (inl t) b et = let h = moves first a b (of_p.opens t b et) in inl (h.0, at_left toks first first' a h.1)
@@ -193,7 +205,8 @@ module _ (toks : List Terminal) where
   module _ {T : Type 0} {p : T → Step} {first more : List Look} {a : ℕ} (of_p : Reads p first more false a) where
     optional_clear : (x y : Option T) (b c : ℕ) → optional p x a ≡ Some b → optional p y a ≡ Some c → Told (x ≡ y) (first ++ more) b c
     optional_clear None None b c et eu = inl refl
-    optional_clear (Some t) (Some u) b c et eu = told_as more (first ++ more) b c (λ e. ap Some e) (λ i h. at_right toks first more i h) (of_p.clear t u b c et eu)
+    optional_clear (Some t) (Some u) b c et eu =
+        told_as more (first ++ more) b c (λ e. ap Some e) (λ i h. at_right toks first more i h) (of_p.clear t u b c et eu)
     optional_clear None (Some u) b c et eu =
         let h = moves first a c (of_p.opens u c eu) in
         let place : a ≡ b = some_same a b et in
@@ -215,7 +228,8 @@ module _ (toks : List Terminal) where
     optional_reads = record { clear = optional_clear; opens = optional_opens; within = optional_within }
 
   -- ---- any number
-  module _ {T : Type 0} {p : T → Step} {first more : List Look} {n : ℕ} (of_p : (b : ℕ) → n ≤ b → Reads p first more false b) (told : apart more first ≡ true) where
+  module _ {T : Type 0} {p : T → Step} {first more : List Look} {n : ℕ} (of_p : (b : ℕ) → n ≤ b →
+      Reads p first more false b) (told : apart more first ≡ true) where
     many_opens : (ts : List T) (a b : ℕ) → n ≤ a → many p ts a ≡ Some b → Opened first true a b
     many_opens [] a b up e = inr (sym (some_same a b e), refl)
     many_opens (t ∷ ts) a b up e =
@@ -228,7 +242,8 @@ module _ (toks : List Terminal) where
     many_ends ts a b up e = rises first true a b (many_opens ts a b up e)
 
     -- the first tree of the one list ends before that of the other
-    many_shorter : (ts us : List T) (m k b c : ℕ) → n ≤ m → many p ts m ≡ Some b → many p us k ≡ Some c → m < k → At toks more m → (b < c) × At toks (first ++ more) b
+    many_shorter : (ts us : List T) (m k b c : ℕ) → n ≤ m → many p ts m ≡ Some b → many p us k ≡ Some c → m < k → At toks more m → (b < c) ×
+        At toks (first ++ more) b
     many_shorter ts us m k b c up et eu less h =
         let on : k ≤ c = many_ends us k c (omega (arith, less)) eu in
         ⊎_elim
@@ -263,7 +278,10 @@ module _ (toks : List Terminal) where
         ⊎_elim
         (λ same.
         let place : r.0 ≡ s.0 = some_same r.0 s.0 (sym r.1.0 ∙ ap (λ z. p z a) (sym same) ∙ s.1.0) in
-        told_as (first ++ more) (first ++ more) b c (λ e i. same i ∷ e i) (λ i h. h) (many_clear ts us s.0 b c (omega (arith, hs.0)) s.1.1 (subst (λ z. many p us z ≡ Some c) place r.1.1)))
+        told_as (first ++ more) (first ++ more) b c (λ e i. same i ∷ e i) (λ i h. h) (many_clear ts us s.0 b c (omega (
+          arith,
+          hs.0,
+        )) s.1.1 (subst (λ z. many p us z ≡ Some c) place r.1.1)))
         (λ d. ⊎_elim
         (λ h. inr (inl (many_shorter ts us s.0 r.0 b c (omega (arith, hs.0)) s.1.1 r.1.1 h.0 h.1)))
         (λ h. inr (inr (many_shorter us ts r.0 s.0 c b (omega (arith, hr.0)) r.1.1 s.1.1 h.0 h.1)))
@@ -278,7 +296,12 @@ module _ (toks : List Terminal) where
         many_within ts s.0 b (omega (arith, h.0)) s.1.1 ((of_p a up).within t s.0 s.1.0 inside)
 
     pub many_reads : Reads (many p) first (first ++ more) true n
-    many_reads = record { clear = λ ts us b c et eu. many_clear ts us n b c (omega arith) et eu; opens = λ ts b et. many_opens ts n b (omega arith) et; within = λ ts b et. many_within ts n b (omega arith) et }
+    many_reads = record {
+      clear = λ ts us b c et eu. many_clear ts us n b c (omega arith) et eu;
+      opens = λ ts b et. many_opens ts n b (omega arith) et;
+      within =
+          λ ts b et. many_within ts n b (omega arith) et;
+    }
 
     some_is_many : (ts : List T) (a : ℕ) (b : ℕ) → some p ts a ≡ Some b → many p ts a ≡ Some b
     some_is_many [] a b e = cc
@@ -293,7 +316,11 @@ module _ (toks : List Terminal) where
         inl (omega (arith, h.0, on), h.1)
 
     pub some_reads : Reads (some p) first (first ++ more) false n
-    some_reads = record { clear = λ ts us b c et eu. many_clear ts us n b c (omega arith) (some_is_many ts n b et) (some_is_many us n c eu); opens = some_opens; within = λ ts b et. many_within ts n b (omega arith) (some_is_many ts n b et) }
+    some_reads = record {
+      clear = λ ts us b c et eu. many_clear ts us n b c (omega arith) (some_is_many ts n b et) (some_is_many us n c eu);
+      opens = some_opens;
+      within = λ ts b et. many_within ts n b (omega arith) (some_is_many ts n b et);
+    }
 
   -- ---- a production by its shape
   module _ {T X : Type 0} {q : X → Step} {first more : List Look} {empty : Bool} {a : ℕ} (p : T → Step)
@@ -305,7 +332,12 @@ module _ (toks : List Terminal) where
         told_as more more b c (λ e. sym vt.1.0 ∙ ap back e ∙ vu.1.0) (λ i h. h) (of_q.clear vt.0 vu.0 b c vt.1.1 vu.1.1)
 
     pub shape_reads : Reads p first more empty a
-    shape_reads = record { clear = shape_clear; opens = λ t b e. let v = view t b e in of_q.opens v.0 b v.1.1; within = λ t b e. let v = view t b e in of_q.within v.0 b v.1.1 }
+    shape_reads = record {
+      clear = shape_clear;
+      opens = λ t b e. let v = view t b e in of_q.opens v.0 b v.1.1;
+      within = λ t b e. let v = view t b e in
+          of_q.within v.0 b v.1.1;
+    }
 
   -- ---- a step that is barred from some places
   module _ {T : Type 0} {p : T → Step} {first more : List Look} {a : ℕ} (barred : ℕ → Bool) (of_p : Reads p first more false a) where
@@ -330,7 +362,8 @@ module _ (toks : List Terminal) where
 
   -- ---- one token, and what is behind it as part of what the two begin with
   module _ {T U : Type 0} {p : T → Step} {q : U → Step} {x : Test} {first' more' : List Look} {a : ℕ}
-      (of_p : Reads p ((x ∷ []) ∷ []) [] false a) (short : (t : T) (b : ℕ) → p t a ≡ Some b → b ≡ suc a) (of_q : (b : ℕ) → a < b → Reads q first' more' false b) where
+      (of_p : Reads p ((x ∷ []) ∷ []) [] false a) (short : (t : T) (b : ℕ) → p t a ≡ Some b → b ≡ suc a) (of_q : (b : ℕ) → a < b →
+      Reads q first' more' false b) where
     behind : Reads (pair p q) ((x ∷ []) ∷ []) (more' ++ []) false a
     behind = pair_reads of_p (λ b o. of_q b (moves ((x ∷ []) ∷ []) a b o).0) refl
 
@@ -343,7 +376,12 @@ module _ (toks : List Terminal) where
         inl (omega (arith, h.0, g.0), at_behind toks x first' a (⊎_elim (λ l. l.0) (λ l. absurd l) h.1) (subst (λ z. At toks first' z) place g.1))
 
     pub behind_reads : Reads (pair p q) (map (λ l. x ∷ l) first') more' false a
-    behind_reads = record { clear = λ y z b c e e'. told_as (more' ++ []) more' b c (λ i. i) (λ i h. at_nil toks more' i h) (behind.clear y z b c e e'); opens = behind_opens; within = behind.within }
+    behind_reads = record {
+      clear = λ y z b c e e'. told_as (more' ++ []) more' b c (λ i. i) (λ i h. at_nil toks more' i h) (behind.clear y z b c e e');
+      opens =
+          behind_opens;
+      within = behind.within;
+    }
 
   pub token_short : (test : Terminal → Bool) (t a b : ℕ) → passing toks test t a ≡ Some b → b ≡ suc a
   token_short test t a b e = (when_true (eqb t a && sees toks test a) (suc a) b e).1
@@ -354,7 +392,10 @@ module _ (toks : List Terminal) where
   -- ---- lists with commas
   module _ {T : Type 0} {p : T → Step} {first more : List Look} {a : ℕ} (of_p : (b : ℕ) → a ≤ b → Reads p first more false b) where
     pub next_reads : Reads (next toks p) (map (λ l. In (k.Comma ∷ []) ∷ l) first) more false a
-    next_reads = shape_reads (next toks p) (λ (x : Unit {0} × T). x.1) (λ t b e. ((tt, t), (refl, e))) (behind_reads (the_reads k.Comma a) (λ t b e. the_short k.Comma a b e) (λ b l. of_p b (omega (arith, l))))
+    next_reads = shape_reads (next toks p) (λ (x : Unit {0} × T). x.1) (λ t b e. (
+      (tt, t),
+      (refl, e),
+    )) (behind_reads (the_reads k.Comma a) (λ t b e. the_short k.Comma a b e) (λ b l. of_p b (omega (arith, l))))
 
   module _ {T : Type 0} {p : T → Step} {first more : List Look} {a : ℕ} (of_p : (b : ℕ) → a ≤ b → Reads p first more false b)
       (told : apart more (map (λ l. In (k.Comma ∷ []) ∷ l) first) ≡ true) where
@@ -364,13 +405,15 @@ module _ (toks : List Terminal) where
 
     pub listed_reads : Reads (listed toks p) (first ++ []) ((map (λ l. In (k.Comma ∷ []) ∷ l) first ++ more) ++ more) false a
     listed_reads = shape_reads (listed toks p) (λ (x : T × List T). x.0 ∷ x.1) listed_shape
-        (pair_reads (of_p a (omega arith)) (λ b o. let up : a ≤ b = rises first false a b o in many_reads (λ c l. next_reads (λ d l'. of_p d (omega (arith, up, l, l')))) told) told)
+        (pair_reads (of_p a (omega arith)) (λ b o. let up : a ≤ b = rises first false a b o in
+        many_reads (λ c l. next_reads (λ d l'. of_p d (omega (arith, up, l, l')))) told) told)
 
     abbrev from_option : Option (List T) → List T
     from_option None = []
     from_option (Some ts) = ts
 
-    separated_shape : (ts : List T) (b : ℕ) → separated toks p ts a ≡ Some b → (x : Option (List T)) × ((from_option x ≡ ts) × (optional (listed toks p) x a ≡ Some b))
+    separated_shape : (ts : List T) (b : ℕ) → separated toks p ts a ≡ Some b → (x : Option (List T)) ×
+        ((from_option x ≡ ts) × (optional (listed toks p) x a ≡ Some b))
     separated_shape [] b e = (None, (refl, e))
     separated_shape (t ∷ ts) b e = (Some (t ∷ ts), (refl, e))
 

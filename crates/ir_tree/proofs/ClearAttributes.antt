@@ -21,7 +21,8 @@ use Rattle.ir_tree.specs.Steps.{Step, ◌⨾◌, the, leaf, none_of, many, optio
 use Rattle.ir_tree.specs.Attributes.{awords, aword, inner_layer, inner, fattr, rattr, gattr, word, cc, comdat, attach}
 use Rattle.ir_tree.proofs.Looks.{Look}
 use Rattle.ir_tree.proofs.Looks.Test.{In, Out}
-use Rattle.ir_tree.proofs.Clear.{Reads, pair, choice, passed, token_reads, the_reads, pair_reads, choice_reads, many_reads, many_map, shape_reads, everywhere, then_some}
+use Rattle.ir_tree.proofs.Clear.{Reads, pair, choice, passed, token_reads, the_reads, pair_reads, choice_reads, many_reads, many_map, shape_reads, everywhere}
+use Rattle.ir_tree.proofs.Clear.{then_some}
 use Rattle.ir_tree.proofs.Known.{Known, firsts, leaf_of, set_of, the_of, pair_of, choice_of, optional_of, many_of, shape_of}
 
 -- ---- what stands inside parentheses
@@ -46,11 +47,16 @@ module _ (toks : List Terminal) where
   inner_shape = choice (none_of toks (k.LeftParen ∷ k.RightParen ∷ [])) bracket
 
   pub inner_view : (a : ℕ) (t : Inner) (b : ℕ) → inner toks t a ≡ Some b → (x : InnerShape) × ((inner_back x ≡ t) × (inner_shape x a ≡ Some b))
-  inner_view a t b e = let o = opened t in subst (λ t. inner toks t a ≡ Some b → (x : InnerShape) × ((inner_back x ≡ t) × (inner_shape x a ≡ Some b))) o.1 (λ e. go o.0 (sym (ap (λ step. step a) (fold-roll-Inner Step (inner_layer toks) o.0)) ∙ e)) e
+  inner_view a t b e = let o = opened t in subst (λ t. inner toks t a ≡ Some b → (x : InnerShape) ×
+      ((inner_back x ≡ t) × (inner_shape x a ≡ Some b))) o.1 (λ e. go o.0 (sym (ap (λ step. step a) (fold-roll-Inner Step (inner_layer toks) o.0)) ∙ e)) e
     where
-      go : (x : Inner-F Inner) → inner_layer toks (map-Inner Inner Step (inner toks) x) a ≡ Some b → (s : InnerShape) × ((inner_back s ≡ roll-Inner x) × (inner_shape s a ≡ Some b))
+      go : (x : Inner-F Inner) → inner_layer toks (map-Inner Inner Step (inner toks) x) a ≡ Some b → (s : InnerShape) ×
+          ((inner_back s ≡ roll-Inner x) × (inner_shape s a ≡ Some b))
       go (Token at) e = (inl at, (refl, e))
-      go (Bracket start inside) e = (inr (start, (inside, tt)), (refl, sym (ap (λ z. (leaf toks k.LeftParen start ⨾ z ⨾ the toks k.RightParen) a) (many_map (inner toks) inside)) ∙ e))
+      go (Bracket start inside) e = (
+        inr (start, (inside, tt)),
+        (refl, sym (ap (λ z. (leaf toks k.LeftParen start ⨾ z ⨾ the toks k.RightParen) a) (many_map (inner toks) inside)) ∙ e),
+      )
 
   inner_step : (a : ℕ) → ((b : ℕ) → a < b → a < length toks → Reads toks (inner toks) inner_first [] false b) → Reads toks (inner toks) inner_first [] false a
   inner_step a rest =
@@ -128,7 +134,8 @@ module _ (toks : List Terminal) where
   fattr_view (fattr_is.Str key value) a b e = (inr (key, value), (refl, e))
 
   abbrev pub fattr_all : Known toks false (fattr toks)
-  fattr_all = shape_of fattr_back fattr_view (choice_of (pair_of (set_of awords) (optional_of bracketed_of) refl) (pair_of (leaf_of k.Str) (optional_of valued_of) refl) refl)
+  fattr_all = shape_of fattr_back fattr_view (choice_of (pair_of (set_of awords) (optional_of bracketed_of) refl)
+      (pair_of (leaf_of k.Str) (optional_of valued_of) refl) refl)
 
   -- what an attribute begins with, and what a longer one goes on with
   abbrev pub fattr_first : List Look
@@ -144,7 +151,8 @@ module _ (toks : List Terminal) where
   fattr_of = record { first = fattr_first; more = fattr_more; at = fattr_reads }
 
   abbrev pub rattr_shape : RattrShape → Step
-  rattr_shape = choice (pair (leaf toks k.Align) (choice (leaf toks k.Int) (pair (λ _. the toks k.LeftParen) (pair (leaf toks k.Int) (leaf toks k.RightParen))))) (fattr toks)
+  rattr_shape = choice (pair (leaf toks k.Align)
+      (choice (leaf toks k.Int) (pair (λ _. the toks k.LeftParen) (pair (leaf toks k.Int) (leaf toks k.RightParen))))) (fattr toks)
 
   pub rattr_view : (t : Rattr) (a b : ℕ) → rattr toks t a ≡ Some b → (x : RattrShape) × ((rattr_back x ≡ t) × (rattr_shape x a ≡ Some b))
   rattr_view (rattr_is.Align at bytes) a b e = (inl (at, inl bytes), (refl, e))
@@ -152,13 +160,16 @@ module _ (toks : List Terminal) where
   rattr_view (rattr_is.Fattr attr) a b e = (inr attr, (refl, e))
 
   pub rattr_reads : (a : ℕ) → Reads toks (rattr toks) (firsts (k.Align ∷ []) ++ fattr_first) fattr_more false a
-  rattr_reads a = (shape_of rattr_back rattr_view (choice_of (pair_of (leaf_of k.Align) (choice_of (leaf_of k.Int) (pair_of (the_of k.LeftParen) (pair_of (leaf_of k.Int) (leaf_of k.RightParen) refl) refl) refl) refl) fattr_of refl)).at a
+  rattr_reads a = (shape_of rattr_back rattr_view
+      (choice_of (pair_of (leaf_of k.Align) (choice_of (leaf_of k.Int) (pair_of (the_of k.LeftParen) (pair_of (leaf_of k.Int) (leaf_of k.RightParen) refl) refl)
+      refl) refl) fattr_of refl)).at a
 
   abbrev pub rattr_of : Known toks false (rattr toks)
   rattr_of = record { first = firsts (k.Align ∷ []) ++ fattr_first; more = fattr_more; at = rattr_reads }
 
   abbrev pub gattr_shape : GattrShape → Step
-  gattr_shape = choice (pair (leaf toks k.Align) equals) (choice (pair (aword toks) (optional (choice equals bracketed))) (pair (leaf toks k.Str) (optional valued)))
+  gattr_shape = choice (pair (leaf toks k.Align) equals) (choice (pair (aword toks) (optional (choice equals bracketed)))
+      (pair (leaf toks k.Str) (optional valued)))
 
   pub gattr_view : (t : Gattr) (a b : ℕ) → gattr toks t a ≡ Some b → (x : GattrShape) × ((gattr_back x ≡ t) × (gattr_shape x a ≡ Some b))
   gattr_view (gattr_is.Word at value) a b e = (inr (inl (at, Some (inl (tt, value)))), (refl, e))
@@ -171,7 +182,9 @@ module _ (toks : List Terminal) where
   equals_of = pair_of (the_of k.Equals) (leaf_of k.Int) refl
 
   abbrev pub gattr_all : Known toks false (gattr toks)
-  gattr_all = shape_of gattr_back gattr_view (choice_of (pair_of (leaf_of k.Align) equals_of refl) (choice_of (pair_of (set_of awords) (optional_of (choice_of equals_of bracketed_of refl)) refl) (pair_of (leaf_of k.Str) (optional_of valued_of) refl) refl) refl)
+  gattr_all = shape_of gattr_back gattr_view (choice_of (pair_of (leaf_of k.Align) equals_of refl)
+      (choice_of (pair_of (set_of awords) (optional_of (choice_of equals_of bracketed_of refl)) refl) (pair_of (leaf_of k.Str) (optional_of valued_of) refl)
+      refl) refl)
 
   pub gattr_reads : (a : ℕ) → Reads toks (gattr toks) (firsts (k.Align ∷ []) ++ fattr_first) (firsts (k.Equals ∷ k.LeftParen ∷ k.Equals ∷ [])) false a
   gattr_reads a = gattr_all.at a
@@ -190,7 +203,8 @@ module _ (toks : List Terminal) where
   word_of = record { first = fattr_first ++ firsts (k.Group ∷ []); more = fattr_more; at = word_reads }
 
   -- ---- calling conventions, comdats, attachments
-  pub cc_view : (t : Cc) (a b : ℕ) → cc toks t a ≡ Some b → (x : (ℕ × ℕ) ⊎ ℕ) × ((cc_back x ≡ t) × (choice (pair (leaf toks k.CcNumber) (leaf toks k.Int)) (leaf toks k.CcWord) x a ≡ Some b))
+  pub cc_view : (t : Cc) (a b : ℕ) → cc toks t a ≡ Some b → (x : (ℕ × ℕ) ⊎ ℕ) ×
+      ((cc_back x ≡ t) × (choice (pair (leaf toks k.CcNumber) (leaf toks k.Int)) (leaf toks k.CcWord) x a ≡ Some b))
   cc_view (cc_is.Number at number) a b e = (inl (at, number), (refl, e))
   cc_view (cc_is.Word at) a b e = (inr at, (refl, e))
 
@@ -204,16 +218,25 @@ module _ (toks : List Terminal) where
   comdat_name name = the toks k.LeftParen ⨾ leaf toks k.Comdat name ⨾ the toks k.RightParen
 
   abbrev pub comdat_name_of : Known toks false comdat_name
-  comdat_name_of = shape_of (λ (x : Unit {0} × (ℕ × Unit {0})). x.1.0) (λ t a b e. ((tt, (t, tt)), (refl, e))) (pair_of (the_of k.LeftParen) (pair_of (leaf_of k.Comdat) (the_of k.RightParen) refl) refl)
+  comdat_name_of = shape_of (λ (x : Unit {0} × (ℕ × Unit {0})). x.1.0) (λ t a b e. (
+    (tt, (t, tt)),
+    (refl, e),
+  )) (pair_of (the_of k.LeftParen) (pair_of (leaf_of k.Comdat) (the_of k.RightParen) refl) refl)
 
   pub comdat_reads : (a : ℕ) → Reads toks (comdat toks) (firsts (k.ComdatWord ∷ [])) (firsts (k.LeftParen ∷ [])) false a
-  comdat_reads a = (shape_of (λ (x : ℕ × Option ℕ). record { word = x.0; name = x.1 }) (λ t a b e. ((t.word, t.name), (refl, e))) (pair_of (leaf_of k.ComdatWord) (optional_of comdat_name_of) refl)).at a
+  comdat_reads a = (shape_of (λ (x : ℕ × Option ℕ). record { word = x.0; name = x.1 }) (λ t a b e. (
+    (t.word, t.name),
+    (refl, e),
+  )) (pair_of (leaf_of k.ComdatWord) (optional_of comdat_name_of) refl)).at a
 
   abbrev pub comdat_of : Known toks false (comdat toks)
   comdat_of = record { first = firsts (k.ComdatWord ∷ []); more = firsts (k.LeftParen ∷ []); at = comdat_reads }
 
   pub attach_reads : (a : ℕ) → Reads toks (attach toks) (firsts (k.Meta ∷ [])) [] false a
-  attach_reads a = (shape_of (λ (x : ℕ × ℕ). record { kind = x.0; node = x.1 }) (λ t a b e. ((t.kind, t.node), (refl, e))) (pair_of (leaf_of k.Meta) (leaf_of k.Meta) refl)).at a
+  attach_reads a = (shape_of (λ (x : ℕ × ℕ). record { kind = x.0; node = x.1 }) (λ t a b e. (
+    (t.kind, t.node),
+    (refl, e),
+  )) (pair_of (leaf_of k.Meta) (leaf_of k.Meta) refl)).at a
 
   abbrev pub attach_of : Known toks false (attach toks)
   attach_of = record { first = firsts (k.Meta ∷ []); more = []; at = attach_reads }

@@ -63,10 +63,12 @@ module _ (toks : List Terminal) where
   pub line_view : (t : Line) (a b : ℕ) → line toks t a ≡ Some b → (x : LineShape) × ((line_back x ≡ t) × (line_shape x a ≡ Some b))
   line_view (line_is.Opaque at) a b e = (inl at, (refl, e))
   line_view (line_is.Instr None x all) a b e = (inr (inl x, all), (refl, e))
-  line_view (line_is.Instr (Some name) x all) a b e = (inr (inr (name, (tt, x)), all), (refl, sym (regroup (leaf toks k.Local name) (the toks k.Equals) (instr toks x) (attached all) a) ∙ e))
+  line_view (line_is.Instr (Some name) x all) a b e =
+      (inr (inr (name, (tt, x)), all), (refl, sym (regroup (leaf toks k.Local name) (the toks k.Equals) (instr toks x) (attached all) a) ∙ e))
 
   abbrev pub line_of : Known toks false (line toks)
-  line_of = shape_of line_back line_view (choice_of (leaf_of k.Opaque) (pair_of (choice_of (instr_of toks) (behind_of k.Local (behind_the k.Equals (instr_of toks))) refl) attached_of refl) refl)
+  line_of = shape_of line_back line_view
+      (choice_of (leaf_of k.Opaque) (pair_of (choice_of (instr_of toks) (behind_of k.Local (behind_the k.Equals (instr_of toks))) refl) attached_of refl) refl)
 
   abbrev pub last_shape : LastShape → Step
   last_shape = choice (pair (term toks) ended) (pair (named (invoke toks)) ended)
@@ -74,16 +76,33 @@ module _ (toks : List Terminal) where
   pub last_view : (t : Last) (a b : ℕ) → last toks t a ≡ Some b → (x : LastShape) × ((last_back x ≡ t) × (last_shape x a ≡ Some b))
   last_view (last_is.Term x all after) a b e = (inl (x, (all, after)), (refl, e))
   last_view (last_is.Invoke None x all after) a b e = (inr (inl x, (all, after)), (refl, e))
-  last_view (last_is.Invoke (Some name) x all after) a b e = (inr (inr (name, (tt, x)), (all, after)), (refl, sym (regroup (leaf toks k.Local name) (the toks k.Equals) (invoke toks x) (ended (all, after)) a) ∙ e))
+  last_view (last_is.Invoke (Some name) x all after) a b e =
+      (inr (inr (name, (tt, x)), (all, after)), (refl, sym (regroup (leaf toks k.Local name) (the toks k.Equals) (invoke toks x) (ended (all, after)) a) ∙ e))
 
   abbrev pub last_of : Known toks false (last toks)
-  last_of = shape_of last_back last_view (choice_of (pair_of (term_of toks) ended_of refl) (pair_of (choice_of (invoke_of toks) (behind_of k.Local (behind_the k.Equals (invoke_of toks))) refl) ended_of refl) refl)
+  last_of = shape_of last_back last_view
+      (choice_of (pair_of (term_of toks) ended_of refl) (pair_of (choice_of (invoke_of toks) (behind_of k.Local (behind_the k.Equals (invoke_of toks))) refl)
+      ended_of refl) refl)
 
   abbrev pub first_of : Known toks false (first toks)
-  first_of = shape_of (λ (x : (Option ℕ) × ((List Line) × Last)). record { label = x.0; lines = x.1.0; last = x.1.1 }) (λ t a b e. ((t.label, (t.lines, t.last)), (refl, e))) (pair_of (optional_of (leaf_of k.Label)) (pair_of (many_of line_of refl) last_of refl) refl)
+  first_of = shape_of (λ (x : (Option ℕ) × ((List Line) × Last)). record {
+    label = x.0;
+    lines = x.1.0;
+    last =
+        x.1.1;
+  }) (λ t a b e. (
+    (t.label, (t.lines, t.last)),
+    (refl, e),
+  )) (pair_of (optional_of (leaf_of k.Label)) (pair_of (many_of line_of refl) last_of refl) refl)
 
   abbrev pub block_of : Known toks false (block toks)
-  block_of = shape_of (λ (x : ℕ × ((List Line) × Last)). record { label = x.0; lines = x.1.0; last = x.1.1 }) (λ t a b e. ((t.label, (t.lines, t.last)), (refl, e))) (pair_of (leaf_of k.Label) (pair_of (many_of line_of refl) last_of refl) refl)
+  block_of = shape_of (λ (x : ℕ × ((List Line) × Last)). record { label = x.0; lines = x.1.0; last = x.1.1 }) (λ t a b e. (
+    (t.label, (t.lines, t.last)),
+    (refl, e),
+  )) (pair_of (leaf_of k.Label) (pair_of (many_of line_of refl) last_of refl) refl)
 
   abbrev pub body_of : Known toks false (body toks)
-  body_of = shape_of (λ (x : First × ((List Block))). record { first = x.0; blocks = x.1 }) (λ t a b e. ((t.first, t.blocks), (refl, e))) (pair_of first_of (many_of block_of refl) refl)
+  body_of = shape_of (λ (x : First × ((List Block))). record { first = x.0; blocks = x.1 }) (λ t a b e. (
+    (t.first, t.blocks),
+    (refl, e),
+  )) (pair_of first_of (many_of block_of refl) refl)

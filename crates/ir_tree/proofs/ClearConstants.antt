@@ -8,7 +8,8 @@ use Rattle.ir_tree.specs.declared.constants.Gepflag.TheVariants as gepflag_of
 use Rattle.ir_tree.specs.declared.constants.Const.{Const}
 use Rattle.ir_tree.specs.declared.constants.Tconst.{Tconst}
 use Rattle.ir_tree.specs.declared.constants.Const.TheOpen.{Const-F}
-use Rattle.ir_tree.specs.declared.constants.Const.TheOpen.Const-F.{Int, True, False, Null, Undef, Poison, Zero, Global, CStr, Array, Struct, Packed, GetElementPtr, Cast, Binop}
+use Rattle.ir_tree.specs.declared.constants.Const.TheOpen.Const-F.{Int, True, False, Null, Undef, Poison, Zero, Global, CStr, Array, Struct, Packed}
+use Rattle.ir_tree.specs.declared.constants.Const.TheOpen.Const-F.{GetElementPtr, Cast, Binop}
 use Rattle.ir_tree.specs.declared.constants.Const.TheViews.{roll-Const}
 use Rattle.ir_tree.specs.declared.constants.Const.TheFolds.{fold-Tconst, fold-roll-Const, fold_out-Tconst, ind-Const, map-Const}
 use Rattle.ir_tree.specs.Steps.{Step, ◌⨾◌, the, leaf, one_of, many, some, next, separated}
@@ -16,7 +17,8 @@ use Rattle.ir_tree.specs.Types.{ty}
 use Rattle.ir_tree.specs.Constants.{iflag, gepflag, const_layer, tconst_layer, const, tconst}
 use Rattle.ir_tree.proofs.Looks.{Look}
 use Rattle.ir_tree.proofs.Looks.Test.{In}
-use Rattle.ir_tree.proofs.Clear.{Reads, pair, choice, passed, rises, token_reads, the_reads, pair_reads, choice_reads, many_reads, some_reads, next_reads, separated_reads, separated_map, some_next_map, shape_reads, everywhere}
+use Rattle.ir_tree.proofs.Clear.{Reads, pair, choice, passed, rises, token_reads, the_reads, pair_reads, choice_reads, many_reads, some_reads, next_reads}
+use Rattle.ir_tree.proofs.Clear.{separated_reads, separated_map, some_next_map, shape_reads, everywhere}
 use Rattle.ir_tree.proofs.Known.{Known, firsts, leaf_of, set_of, the_of, pair_of, choice_of, shape_of}
 use Rattle.ir_tree.proofs.ClearTypes.{ty_first, ty_reads}
 
@@ -33,14 +35,19 @@ module _ (toks : List Terminal) where
   iflag_of = set_of (k.Nuw ∷ k.Iflag ∷ [])
 
   abbrev pub flag_shape : FlagShape → Step
-  flag_shape = choice (one_of toks (k.Nuw ∷ k.Gepflag ∷ [])) (pair (leaf toks k.InRange) (pair (λ _. the toks k.LeftParen) (pair (leaf toks k.Int) (pair (λ _. the toks k.Comma) (pair (leaf toks k.Int) (λ _. the toks k.RightParen))))))
+  flag_shape = choice (one_of toks (k.Nuw ∷ k.Gepflag ∷ []))
+      (pair (leaf toks k.InRange) (pair (λ _. the toks k.LeftParen)
+      (pair (leaf toks k.Int) (pair (λ _. the toks k.Comma) (pair (leaf toks k.Int) (λ _. the toks k.RightParen))))))
 
   pub gepflag_view : (t : Gepflag) (a b : ℕ) → gepflag toks t a ≡ Some b → (x : FlagShape) × ((gepflag_back x ≡ t) × (flag_shape x a ≡ Some b))
   gepflag_view (gepflag_of.Word at) a b e = (inl at, (refl, e))
   gepflag_view (gepflag_of.InRange word from to) a b e = (inr (word, (tt, (from, (tt, (to, tt))))), (refl, e))
 
   abbrev pub gepflag_known : Known toks false (gepflag toks)
-  gepflag_known = shape_of gepflag_back gepflag_view (choice_of (set_of (k.Nuw ∷ k.Gepflag ∷ [])) (pair_of (leaf_of k.InRange) (pair_of (the_of k.LeftParen) (pair_of (leaf_of k.Int) (pair_of (the_of k.Comma) (pair_of (leaf_of k.Int) (the_of k.RightParen) refl) refl) refl) refl) refl) refl)
+  gepflag_known = shape_of gepflag_back gepflag_view
+      (choice_of (set_of (k.Nuw ∷ k.Gepflag ∷ []))
+      (pair_of (leaf_of k.InRange) (pair_of (the_of k.LeftParen)
+      (pair_of (leaf_of k.Int) (pair_of (the_of k.Comma) (pair_of (leaf_of k.Int) (the_of k.RightParen) refl) refl) refl) refl) refl) refl)
 
 -- ---- constants
 opened : (c : Const) → (x : Const-F Const Tconst) × (roll-Const x ≡ c)
@@ -83,7 +90,8 @@ back (inr (inr (inr (inr (inr (inr (inr (inr (inr (inr (inr (inr (inr (inr x))))
 
 -- what a constant begins with
 abbrev pub const_first : List Look
-const_first = firsts (k.Int ∷ k.True ∷ k.False ∷ k.Null ∷ k.Undef ∷ k.Poison ∷ k.Zero ∷ k.Global ∷ k.CStr ∷ k.LeftBracket ∷ k.LeftBrace ∷ k.Less ∷ k.GetElementPtr ∷ k.ConstCast ∷ k.ConstBinop ∷ [])
+const_first = firsts (k.Int ∷ k.True ∷ k.False ∷ k.Null ∷ k.Undef ∷ k.Poison ∷ k.Zero ∷ k.Global ∷ k.CStr ∷ k.LeftBracket ∷ k.LeftBrace ∷ k.Less ∷
+    k.GetElementPtr ∷ k.ConstCast ∷ k.ConstBinop ∷ [])
 
 module _ (toks : List Terminal) where
   abbrev pub array : ArrayShape → Step
@@ -93,19 +101,28 @@ module _ (toks : List Terminal) where
   struct = pair (leaf toks k.LeftBrace) (pair (separated toks (tconst toks)) (λ _. the toks k.RightBrace))
 
   abbrev pub packed : PackedShape → Step
-  packed = pair (leaf toks k.Less) (pair (λ _. the toks k.LeftBrace) (pair (separated toks (tconst toks)) (pair (λ _. the toks k.RightBrace) (λ _. the toks k.Greater))))
+  packed = pair (leaf toks k.Less)
+      (pair (λ _. the toks k.LeftBrace) (pair (separated toks (tconst toks)) (pair (λ _. the toks k.RightBrace) (λ _. the toks k.Greater))))
 
   abbrev pub gep : GepShape → Step
-  gep = pair (leaf toks k.GetElementPtr) (pair (many (gepflag toks)) (pair (λ _. the toks k.LeftParen) (pair (ty toks) (pair (some (next toks (tconst toks))) (λ _. the toks k.RightParen)))))
+  gep = pair (leaf toks k.GetElementPtr)
+      (pair (many (gepflag toks)) (pair (λ _. the toks k.LeftParen) (pair (ty toks) (pair (some (next toks (tconst toks))) (λ _. the toks k.RightParen)))))
 
   abbrev pub cast : CastShape → Step
-  cast = pair (leaf toks k.ConstCast) (pair (λ _. the toks k.LeftParen) (pair (tconst toks) (pair (λ _. the toks k.To) (pair (ty toks) (λ _. the toks k.RightParen)))))
+  cast = pair (leaf toks k.ConstCast)
+      (pair (λ _. the toks k.LeftParen) (pair (tconst toks) (pair (λ _. the toks k.To) (pair (ty toks) (λ _. the toks k.RightParen)))))
 
   abbrev pub binop : BinopShape → Step
-  binop = pair (leaf toks k.ConstBinop) (pair (many (iflag toks)) (pair (λ _. the toks k.LeftParen) (pair (tconst toks) (pair (λ _. the toks k.Comma) (pair (tconst toks) (λ _. the toks k.RightParen))))))
+  binop = pair (leaf toks k.ConstBinop)
+      (pair (many (iflag toks)) (pair (λ _. the toks k.LeftParen)
+      (pair (tconst toks) (pair (λ _. the toks k.Comma) (pair (tconst toks) (λ _. the toks k.RightParen))))))
 
   abbrev pub shape : Shape → Step
-  shape = choice (leaf toks k.Int) (choice (leaf toks k.True) (choice (leaf toks k.False) (choice (leaf toks k.Null) (choice (leaf toks k.Undef) (choice (leaf toks k.Poison) (choice (leaf toks k.Zero) (choice (leaf toks k.Global) (choice (leaf toks k.CStr) (choice array (choice struct (choice packed (choice gep (choice cast binop)))))))))))))
+  shape = choice (leaf toks k.Int)
+      (choice (leaf toks k.True) (choice (leaf toks k.False)
+      (choice (leaf toks k.Null) (choice (leaf toks k.Undef)
+      (choice (leaf toks k.Poison) (choice (leaf toks k.Zero)
+      (choice (leaf toks k.Global) (choice (leaf toks k.CStr) (choice array (choice struct (choice packed (choice gep (choice cast binop)))))))))))))
 
   fold_tconst : (t : Tconst) → fold-Tconst Step Step (const_layer toks) (tconst_layer toks) t ≡ tconst toks t
   fold_tconst t = fold_out-Tconst Step Step (const_layer toks) (tconst_layer toks) t
@@ -114,9 +131,13 @@ module _ (toks : List Terminal) where
   fold_tconsts = λ i t. fold_tconst t i
 
   pub view : (a : ℕ) (t : Const) (b : ℕ) → const toks t a ≡ Some b → (x : Shape) × ((back x ≡ t) × (shape x a ≡ Some b))
-  view a t b e = let o = opened t in subst (λ t. const toks t a ≡ Some b → (x : Shape) × ((back x ≡ t) × (shape x a ≡ Some b))) o.1 (λ e. go o.0 (sym (ap (λ step. step a) (fold-roll-Const Step Step (const_layer toks) (tconst_layer toks) o.0 ∙ ap (λ f. const_layer toks (map-Const Const Tconst Step Step (const toks) f o.0)) fold_tconsts)) ∙ e)) e
+  view a t b e = let o = opened t in
+      subst (λ t. const toks t a ≡ Some b → (x : Shape) ×
+      ((back x ≡ t) × (shape x a ≡ Some b))) o.1 (λ e. go o.0 (sym (ap (λ step. step a) (fold-roll-Const Step Step (const_layer toks) (tconst_layer toks) o.0 ∙
+      ap (λ f. const_layer toks (map-Const Const Tconst Step Step (const toks) f o.0)) fold_tconsts)) ∙ e)) e
     where
-      go : (x : Const-F Const Tconst) → const_layer toks (map-Const Const Tconst Step Step (const toks) (tconst toks) x) a ≡ Some b → (s : Shape) × ((back s ≡ roll-Const x) × (shape s a ≡ Some b))
+      go : (x : Const-F Const Tconst) → const_layer toks (map-Const Const Tconst Step Step (const toks) (tconst toks) x) a ≡ Some b → (s : Shape) ×
+          ((back s ≡ roll-Const x) × (shape s a ≡ Some b))
       go (Int at) e = (inl at, (refl, e))
       go (True at) e = (inr (inl at), (refl, e))
       go (False at) e = (inr (inr (inl at)), (refl, e))
@@ -126,12 +147,33 @@ module _ (toks : List Terminal) where
       go (Zero at) e = (inr (inr (inr (inr (inr (inr (inl at)))))), (refl, e))
       go (Global at) e = (inr (inr (inr (inr (inr (inr (inr (inl at))))))), (refl, e))
       go (CStr at) e = (inr (inr (inr (inr (inr (inr (inr (inr (inl at)))))))), (refl, e))
-      go (Array start parts) e = (inr (inr (inr (inr (inr (inr (inr (inr (inr (inl (start, (parts, tt))))))))))), (refl, sym (ap (λ z. (leaf toks k.LeftBracket start ⨾ z ⨾ the toks k.RightBracket) a) (separated_map toks (tconst toks) parts)) ∙ e))
-      go (Struct start parts) e = (inr (inr (inr (inr (inr (inr (inr (inr (inr (inr (inl (start, (parts, tt)))))))))))), (refl, sym (ap (λ z. (leaf toks k.LeftBrace start ⨾ z ⨾ the toks k.RightBrace) a) (separated_map toks (tconst toks) parts)) ∙ e))
-      go (Packed start parts) e = (inr (inr (inr (inr (inr (inr (inr (inr (inr (inr (inr (inl (start, (tt, (parts, (tt, tt))))))))))))))), (refl, sym (ap (λ z. (leaf toks k.Less start ⨾ the toks k.LeftBrace ⨾ z ⨾ the toks k.RightBrace ⨾ the toks k.Greater) a) (separated_map toks (tconst toks) parts)) ∙ e))
-      go (GetElementPtr op flags elem operands) e = (inr (inr (inr (inr (inr (inr (inr (inr (inr (inr (inr (inr (inl (op, (flags, (tt, (elem, (operands, tt))))))))))))))))), (refl, sym (ap (λ z. (leaf toks k.GetElementPtr op ⨾ many (gepflag toks) flags ⨾ the toks k.LeftParen ⨾ ty toks elem ⨾ z ⨾ the toks k.RightParen) a) (some_next_map toks (tconst toks) operands)) ∙ e))
+      go (Array start parts) e = (
+        inr (inr (inr (inr (inr (inr (inr (inr (inr (inl (start, (parts, tt))))))))))),
+        (refl, sym (ap (λ z. (leaf toks k.LeftBracket start ⨾ z ⨾ the toks k.RightBracket) a) (separated_map toks (tconst toks) parts)) ∙ e),
+      )
+      go (Struct start parts) e = (
+        inr (inr (inr (inr (inr (inr (inr (inr (inr (inr (inl (start, (parts, tt)))))))))))),
+        (refl, sym (ap (λ z. (leaf toks k.LeftBrace start ⨾ z ⨾ the toks k.RightBrace) a) (separated_map toks (tconst toks) parts)) ∙ e),
+      )
+      go (Packed start parts) e = (
+        inr (inr (inr (inr (inr (inr (inr (inr (inr (inr (inr (inl (start, (tt, (parts, (tt, tt))))))))))))))),
+        (
+          refl,
+          sym (ap (λ z. (leaf toks k.Less start ⨾ the toks k.LeftBrace ⨾ z ⨾ the toks k.RightBrace ⨾ the toks k.Greater) a)
+              (separated_map toks (tconst toks) parts)) ∙ e,
+        ),
+      )
+      go (GetElementPtr op flags elem operands) e = (
+        inr (inr (inr (inr (inr (inr (inr (inr (inr (inr (inr (inr (inl (op, (flags, (tt, (elem, (operands, tt))))))))))))))))),
+        (
+          refl,
+          sym (ap (λ z. (leaf toks k.GetElementPtr op ⨾ many (gepflag toks) flags ⨾ the toks k.LeftParen ⨾ ty toks elem ⨾ z ⨾ the toks k.RightParen) a)
+              (some_next_map toks (tconst toks) operands)) ∙ e,
+        ),
+      )
       go (Cast op of to) e = (inr (inr (inr (inr (inr (inr (inr (inr (inr (inr (inr (inr (inr (inl (op, (tt, (of, (tt, (to, tt)))))))))))))))))), (refl, e))
-      go (Binop op flags left right) e = (inr (inr (inr (inr (inr (inr (inr (inr (inr (inr (inr (inr (inr (inr (op, (flags, (tt, (left, (tt, (right, tt))))))))))))))))))), (refl, e))
+      go (Binop op flags left right) e =
+          (inr (inr (inr (inr (inr (inr (inr (inr (inr (inr (inr (inr (inr (inr (op, (flags, (tt, (left, (tt, (right, tt))))))))))))))))))), (refl, e))
 
   module _ (a : ℕ) (rest : (b : ℕ) → a < b → a < length toks → Reads toks (const toks) const_first [] false b) where
     -- a type and a constant, behind a token
@@ -140,20 +182,26 @@ module _ (toks : List Terminal) where
         shape_reads toks (tconst toks) (λ (x : Ty × Const). record { ty = x.0; value = x.1 }) (λ t c e. ((t.ty, t.value), (refl, e)))
         (pair_reads toks (ty_reads toks b) (λ c o. rest c (omega (arith, past.0, rises toks ty_first false b c o)) past.1) refl)
 
-    parts_behind : (b : ℕ) → (a < b) × (a < length toks) → Reads toks (separated toks (tconst toks)) (ty_first ++ []) ((ty_first ++ []) ++ ((map (λ l. In (k.Comma ∷ []) ∷ l) ty_first ++ []) ++ [])) true b
+    parts_behind : (b : ℕ) → (a < b) × (a < length toks) →
+        Reads toks (separated toks (tconst toks)) (ty_first ++ []) ((ty_first ++ []) ++ ((map (λ l. In (k.Comma ∷ []) ∷ l) ty_first ++ []) ++ [])) true b
     parts_behind b past = separated_reads toks (λ c up. tconst_behind c (omega (arith, past.0, up), past.1)) refl
 
     array_reads : Reads toks array (firsts (k.LeftBracket ∷ [])) [] false a
-    array_reads = pair_reads toks (token_reads toks (In (k.LeftBracket ∷ [])) a) (λ b o. pair_reads toks (parts_behind b (passed toks (In (k.LeftBracket ∷ [])) a b o)) (λ c _. the_reads toks k.RightBracket c) refl) refl
+    array_reads = pair_reads toks (token_reads toks (In (k.LeftBracket ∷ [])) a)
+        (λ b o. pair_reads toks (parts_behind b (passed toks (In (k.LeftBracket ∷ [])) a b o)) (λ c _. the_reads toks k.RightBracket c) refl) refl
 
     struct_reads : Reads toks struct (firsts (k.LeftBrace ∷ [])) [] false a
-    struct_reads = pair_reads toks (token_reads toks (In (k.LeftBrace ∷ [])) a) (λ b o. pair_reads toks (parts_behind b (passed toks (In (k.LeftBrace ∷ [])) a b o)) (λ c _. the_reads toks k.RightBrace c) refl) refl
+    struct_reads = pair_reads toks (token_reads toks (In (k.LeftBrace ∷ [])) a)
+        (λ b o. pair_reads toks (parts_behind b (passed toks (In (k.LeftBrace ∷ [])) a b o)) (λ c _. the_reads toks k.RightBrace c) refl) refl
 
     packed_reads : Reads toks packed (firsts (k.Less ∷ [])) [] false a
     packed_reads =
         pair_reads toks (token_reads toks (In (k.Less ∷ [])) a) (λ b o. let past = passed toks (In (k.Less ∷ [])) a b o in
         pair_reads toks (the_reads toks k.LeftBrace b) (λ c o. let past' = passed toks (In (k.LeftBrace ∷ [])) b c o in
-        pair_reads toks (parts_behind c (omega (arith, past.0, past'.0), past.1)) (λ d _. pair_reads toks (the_reads toks k.RightBrace d) (λ e _. the_reads toks k.Greater e) refl) refl) refl) refl
+        pair_reads toks (parts_behind c (
+          omega (arith, past.0, past'.0),
+          past.1,
+        )) (λ d _. pair_reads toks (the_reads toks k.RightBrace d) (λ e _. the_reads toks k.Greater e) refl) refl) refl) refl
 
     gep_reads : Reads toks gep (firsts (k.GetElementPtr ∷ [])) [] false a
     gep_reads =
@@ -161,7 +209,10 @@ module _ (toks : List Terminal) where
         pair_reads toks (many_reads toks (λ c _. (gepflag_known toks).at c) refl) (λ c o. let up : b ≤ c = rises toks (gepflag_known toks).first true b c o in
         pair_reads toks (the_reads toks k.LeftParen c) (λ d o. let up' = passed toks (In (k.LeftParen ∷ [])) c d o in
         pair_reads toks (ty_reads toks d) (λ e o. let up'' : d ≤ e = rises toks ty_first false d e o in
-        pair_reads toks (some_reads toks (λ f on. next_reads toks (λ g on'. tconst_behind g (omega (arith, past.0, up, up'.0, up'', on, on'), past.1))) refl) (λ f _. the_reads toks k.RightParen f) refl) refl) refl) refl) refl
+        pair_reads toks (some_reads toks (λ f on. next_reads toks (λ g on'. tconst_behind g (
+          omega (arith, past.0, up, up'.0, up'', on, on'),
+          past.1,
+        ))) refl) (λ f _. the_reads toks k.RightParen f) refl) refl) refl) refl) refl
 
     cast_reads : Reads toks cast (firsts (k.ConstCast ∷ [])) [] false a
     cast_reads =
@@ -177,10 +228,18 @@ module _ (toks : List Terminal) where
         pair_reads toks (the_reads toks k.LeftParen c) (λ d o. let up' = passed toks (In (k.LeftParen ∷ [])) c d o in
         pair_reads toks (tconst_behind d (omega (arith, past.0, up, up'.0), past.1)) (λ e o. let up'' : d ≤ e = rises toks ty_first false d e o in
         pair_reads toks (the_reads toks k.Comma e) (λ f o. let on = passed toks (In (k.Comma ∷ [])) e f o in
-        pair_reads toks (tconst_behind f (omega (arith, past.0, up, up'.0, up'', on.0), past.1)) (λ g _. the_reads toks k.RightParen g) refl) refl) refl) refl) refl) refl
+        pair_reads toks (tconst_behind f (omega (arith, past.0, up, up'.0, up'', on.0), past.1)) (λ g _. the_reads toks k.RightParen g) refl) refl) refl) refl)
+        refl) refl
 
     const_step : Reads toks (const toks) const_first [] false a
-    const_step = shape_reads toks (const toks) back (view a) (choice_reads toks (token_reads toks (In (k.Int ∷ [])) a) (choice_reads toks (token_reads toks (In (k.True ∷ [])) a) (choice_reads toks (token_reads toks (In (k.False ∷ [])) a) (choice_reads toks (token_reads toks (In (k.Null ∷ [])) a) (choice_reads toks (token_reads toks (In (k.Undef ∷ [])) a) (choice_reads toks (token_reads toks (In (k.Poison ∷ [])) a) (choice_reads toks (token_reads toks (In (k.Zero ∷ [])) a) (choice_reads toks (token_reads toks (In (k.Global ∷ [])) a) (choice_reads toks (token_reads toks (In (k.CStr ∷ [])) a) (choice_reads toks array_reads (choice_reads toks struct_reads (choice_reads toks packed_reads (choice_reads toks gep_reads (choice_reads toks cast_reads binop_reads refl) refl) refl) refl) refl) refl) refl) refl) refl) refl) refl) refl) refl) refl)
+    const_step = shape_reads toks (const toks) back (view a) (choice_reads toks (token_reads toks (In (k.Int ∷ [])) a)
+        (choice_reads toks (token_reads toks (In (k.True ∷ [])) a) (choice_reads toks (token_reads toks (In (k.False ∷ [])) a)
+        (choice_reads toks (token_reads toks (In (k.Null ∷ [])) a) (choice_reads toks (token_reads toks (In (k.Undef ∷ [])) a)
+        (choice_reads toks (token_reads toks (In (k.Poison ∷ [])) a) (choice_reads toks (token_reads toks (In (k.Zero ∷ [])) a)
+        (choice_reads toks (token_reads toks (In (k.Global ∷ [])) a) (choice_reads toks (token_reads toks (In (k.CStr ∷ [])) a)
+        (choice_reads toks array_reads (choice_reads toks struct_reads
+        (choice_reads toks packed_reads (choice_reads toks gep_reads (choice_reads toks cast_reads binop_reads refl) refl) refl) refl) refl) refl) refl) refl)
+        refl) refl) refl) refl) refl) refl)
 
   pub const_reads : (a : ℕ) → Reads toks (const toks) const_first [] false a
   const_reads = everywhere toks (λ a. Reads toks (const toks) const_first [] false a) const_step

@@ -46,7 +46,10 @@ ftail_back (inr (inr (inr (inr (inr (inr x)))))) = ftail_is.Attach x
 
 module _ (toks : List Terminal) where
   abbrev pub param_of : Known toks false (param toks)
-  param_of = shape_of (λ (x : Ty × ((List Rattr) × ((Option ℕ)))). record { ty = x.0; words = x.1.0; name = x.1.1 }) (λ t a b e. ((t.ty, (t.words, t.name)), (refl, e))) (pair_of (ty_of toks) (pair_of (many_of (rattr_of toks) refl) (optional_of (leaf_of k.Local)) refl) refl)
+  param_of = shape_of (λ (x : Ty × ((List Rattr) × ((Option ℕ)))). record { ty = x.0; words = x.1.0; name = x.1.1 }) (λ t a b e. (
+    (t.ty, (t.words, t.name)),
+    (refl, e),
+  )) (pair_of (ty_of toks) (pair_of (many_of (rattr_of toks) refl) (optional_of (leaf_of k.Local)) refl) refl)
 
   abbrev pub params_shape : ParamsShape → Step
   params_shape = optional (choice (leaf toks k.Dots) (pair (listed toks (param toks)) (optional (next toks (leaf toks k.Dots)))))
@@ -57,10 +60,13 @@ module _ (toks : List Terminal) where
   params_view (params_is.Listed all dots) a b e = (Some (inr (all, dots)), (refl, e))
 
   abbrev pub params_of : Known toks true (params toks)
-  params_of = shape_of params_back params_view (optional_of (choice_of (leaf_of k.Dots) (pair_of (listed_of param_of refl) (optional_of (next_of (leaf_of k.Dots))) refl) refl))
+  params_of = shape_of params_back params_view
+      (optional_of (choice_of (leaf_of k.Dots) (pair_of (listed_of param_of refl) (optional_of (next_of (leaf_of k.Dots))) refl) refl))
 
   abbrev pub ftail_shape : FtailShape → Step
-  ftail_shape = choice (pair (leaf toks k.Section) (leaf toks k.Str)) (choice (pair (leaf toks k.Partition) (leaf toks k.Str)) (choice (pair (leaf toks k.Gc) (leaf toks k.Str)) (choice (pair (leaf toks k.Align) (leaf toks k.Int)) (choice (comdat toks) (choice (pair (leaf toks k.Extra) (tconst toks)) (attach toks))))))
+  ftail_shape = choice (pair (leaf toks k.Section) (leaf toks k.Str)) (choice (pair (leaf toks k.Partition) (leaf toks k.Str))
+      (choice (pair (leaf toks k.Gc) (leaf toks k.Str))
+      (choice (pair (leaf toks k.Align) (leaf toks k.Int)) (choice (comdat toks) (choice (pair (leaf toks k.Extra) (tconst toks)) (attach toks))))))
 
   pub ftail_view : (t : Ftail) (a b : ℕ) → ftail toks t a ≡ Some b → (x : FtailShape) × ((ftail_back x ≡ t) × (ftail_shape x a ≡ Some b))
   ftail_view (ftail_is.Section at name) a b e = (inl (at, name), (refl, e))
@@ -72,7 +78,38 @@ module _ (toks : List Terminal) where
   ftail_view (ftail_is.Attach x) a b e = (inr (inr (inr (inr (inr (inr x))))), (refl, e))
 
   abbrev pub ftail_of : Known toks false (ftail toks)
-  ftail_of = shape_of ftail_back ftail_view (choice_of (pair_of (leaf_of k.Section) (leaf_of k.Str) refl) (choice_of (pair_of (leaf_of k.Partition) (leaf_of k.Str) refl) (choice_of (pair_of (leaf_of k.Gc) (leaf_of k.Str) refl) (choice_of (pair_of (leaf_of k.Align) (leaf_of k.Int) refl) (choice_of (comdat_of toks) (choice_of (pair_of (leaf_of k.Extra) (tconst_of toks) refl) (attach_of toks) refl) refl) refl) refl) refl) refl)
+  ftail_of = shape_of ftail_back ftail_view (choice_of (pair_of (leaf_of k.Section) (leaf_of k.Str) refl)
+      (choice_of (pair_of (leaf_of k.Partition) (leaf_of k.Str) refl) (choice_of (pair_of (leaf_of k.Gc) (leaf_of k.Str) refl)
+      (choice_of (pair_of (leaf_of k.Align) (leaf_of k.Int) refl)
+      (choice_of (comdat_of toks) (choice_of (pair_of (leaf_of k.Extra) (tconst_of toks) refl) (attach_of toks) refl) refl) refl) refl) refl) refl)
 
   abbrev pub header_of : Known toks false (header toks)
-  header_of = shape_of (λ (x : (Option ℕ) × ((List ℕ) × ((Option Cc) × ((List Rattr) × (Ty × (ℕ × ((Unit {0}) × (Params × (ℕ × ((Option ℕ) × ((List Word) × ((List Ftail))))))))))))). record { linkage = x.0; words = x.1.0; cc = x.1.1.0; result_words = x.1.1.1.0; result = x.1.1.1.1.0; name = x.1.1.1.1.1.0; params = x.1.1.1.1.1.1.1.0; close = x.1.1.1.1.1.1.1.1.0; unnamed = x.1.1.1.1.1.1.1.1.1.0; attributes = x.1.1.1.1.1.1.1.1.1.1.0; tails = x.1.1.1.1.1.1.1.1.1.1.1 }) (λ t a b e. ((t.linkage, (t.words, (t.cc, (t.result_words, (t.result, (t.name, (tt, (t.params, (t.close, (t.unnamed, (t.attributes, t.tails))))))))))), (refl, e))) (pair_of (optional_of (leaf_of k.Linkage)) (pair_of (many_of (leaf_of k.Hword) refl) (pair_of (optional_of (cc_of toks)) (pair_of (many_of (rattr_of toks) refl) (pair_of (ty_of toks) (pair_of (leaf_of k.Global) (pair_of (the_of k.LeftParen) (pair_of params_of (pair_of (leaf_of k.RightParen) (pair_of (optional_of (leaf_of k.Unnamed)) (pair_of (many_of (word_of toks) refl) (many_of ftail_of refl) refl) refl) refl) refl) refl) refl) refl) refl) refl) refl) refl)
+  header_of = shape_of (λ (x : (Option ℕ) ×
+      ((List ℕ) × ((Option Cc) × ((List Rattr) × (Ty × (ℕ × ((Unit {0}) × (Params × (ℕ × ((Option ℕ) × ((List Word) × ((List Ftail))))))))))))). record {
+        linkage = x.0;
+        words = x.1.0;
+        cc = x.1.1.0;
+        result_words = x.1.1.1.0;
+        result = x.1.1.1.1.0;
+        name = x.1.1.1.1.1.0;
+        params = x.1.1.1.1.1.1.1.0;
+        close =
+            x.1.1.1.1.1.1.1.1.0;
+        unnamed = x.1.1.1.1.1.1.1.1.1.0;
+        attributes = x.1.1.1.1.1.1.1.1.1.1.0;
+        tails =
+            x.1.1.1.1.1.1.1.1.1.1.1;
+      }) (λ t a b e. (
+        (
+          t.linkage,
+          (t.words, (t.cc, (t.result_words, (t.result, (t.name, (tt, (t.params, (t.close, (t.unnamed, (t.attributes, t.tails)))))))))),
+        ),
+        (refl, e),
+      )) (pair_of (optional_of (leaf_of k.Linkage))
+      (pair_of (many_of (leaf_of k.Hword) refl)
+      (pair_of (optional_of (cc_of toks))
+      (pair_of (many_of (rattr_of toks) refl)
+      (pair_of (ty_of toks) (pair_of (leaf_of k.Global)
+      (pair_of (the_of k.LeftParen) (pair_of params_of
+      (pair_of (leaf_of k.RightParen) (pair_of (optional_of (leaf_of k.Unnamed)) (pair_of (many_of (word_of toks) refl) (many_of ftail_of refl) refl) refl)
+      refl) refl) refl) refl) refl) refl) refl) refl) refl)

@@ -23,7 +23,8 @@ abbrev pub value_first : List Look
 value_first = firsts (k.Local ∷ []) ++ const_first
 
 module _ (toks : List Terminal) where
-  pub value_view : (t : Value) (a b : ℕ) → value toks t a ≡ Some b → (x : ℕ ⊎ const_type.Const) × ((value_back x ≡ t) × (choice (leaf toks k.Local) (const toks) x a ≡ Some b))
+  pub value_view : (t : Value) (a b : ℕ) → value toks t a ≡ Some b → (x : ℕ ⊎ const_type.Const) ×
+      ((value_back x ≡ t) × (choice (leaf toks k.Local) (const toks) x a ≡ Some b))
   value_view (Local at) a b e = (inl at, (refl, e))
   value_view (Const c) a b e = (inr c, (refl, e))
 
@@ -34,7 +35,10 @@ module _ (toks : List Terminal) where
   value_of = record { first = value_first; more = []; at = value_reads }
 
   pub tvalue_reads : (a : ℕ) → Reads toks (tvalue toks) ty_first [] false a
-  tvalue_reads a = (shape_of (λ (x : Ty × Value). record { ty = x.0; value = x.1 }) (λ t a b e. ((t.ty, t.value), (refl, e))) (pair_of (ty_of toks) value_of refl)).at a
+  tvalue_reads a = (shape_of (λ (x : Ty × Value). record { ty = x.0; value = x.1 }) (λ t a b e. (
+    (t.ty, t.value),
+    (refl, e),
+  )) (pair_of (ty_of toks) value_of refl)).at a
 
   abbrev pub tvalue_of : Known toks false (tvalue toks)
   tvalue_of = record { first = ty_first; more = []; at = tvalue_reads }

@@ -1,5 +1,6 @@
 -- What the tokens from a place on may be: sets of terminals for the first few of them, and when two such sets are apart.
-use Rattle.std.proofs.Common.{◌≡◌, ℕ, suc, ◌<◌, length, Bool, true, false, not, ◌&&◌, ◌||◌, List, [], ◌∷◌, ◌++◌, map, Option, None, Some, ◌⊎◌, inl, inr, ⊎_elim, refl, subst}
+use Rattle.std.proofs.Common.{◌≡◌, ℕ, suc, ◌<◌, length, Bool, true, false, not, ◌&&◌, ◌||◌, List, [], ◌∷◌, ◌++◌, map, Option, None, Some, ◌⊎◌, inl, inr, ⊎_elim}
+use Rattle.std.proofs.Common.{refl, subst}
 use Rattle.std.specs.List.{list_all}
 use Rattle.std.proofs.lemmas.Option.{slice_get_within}
 use Rattle.std.specs.Prelude.{slice_get}
@@ -58,7 +59,8 @@ all_among : (set : List Terminal) (test : Terminal → Bool) (t : Terminal) → 
 all_among [] test t all e = absurd (falls e)
 all_among (k ∷ set) test t all e =
     let here = both (test k) (list_all test set) all in
-    ⊎_elim (λ same. subst (λ x. test x ≡ true) (same_true the_type tt k t same) here.0) (λ later. all_among set test t here.1 later) (one (is k t) (among set t) e)
+    ⊎_elim (λ same. subst (λ x. test x ≡ true) (same_true the_type tt k t same) here.0) (λ later. all_among set test t here.1 later)
+    (one (is k t) (among set t) e)
 
 tests_clash : (x y : Test) (t : Terminal) → apart_tests x y ≡ true → passes x t ≡ true → passes y t ≡ true → ⊥
 tests_clash (In set) (In other) t apart' h k = clash (among other t) k (all_among set (λ z. not (among other z)) t apart' h)
@@ -66,7 +68,8 @@ tests_clash (In set) (Out other) t apart' h k = clash (among other t) (all_among
 tests_clash (Out other) (In set) t apart' h k = clash (among other t) (all_among set (among other) t apart' k) h
 tests_clash (Out set) (Out other) t apart' h k = falls apart'
 
-pub token_seen : (toks : List Terminal) (test : Terminal → Bool) (a : ℕ) → sees toks test a ≡ true → (t : Terminal) × ((slice_get toks a ≡ Some t) × (test t ≡ true))
+pub token_seen : (toks : List Terminal) (test : Terminal → Bool) (a : ℕ) → sees toks test a ≡ true → (t : Terminal) ×
+    ((slice_get toks a ≡ Some t) × (test t ≡ true))
 unfolding sees
 token_seen toks test a e = go (slice_get toks a) e
   where
@@ -94,7 +97,8 @@ module _ (toks : List Terminal) where
   looks_clash : (l m : Look) (a : ℕ) → apart_looks l m ≡ true → Begins l a → Begins m a → ⊥
   looks_clash [] m a apart' h k = falls apart'
   looks_clash (x ∷ l) [] a apart' h k = falls apart'
-  looks_clash (x ∷ l) (y ∷ m) a apart' h k = ⊎_elim (λ here. seen_clash x y a here h.0 k.0) (λ later. looks_clash l m (suc a) later h.1 k.1) (one (apart_tests x y) (apart_looks l m) apart')
+  looks_clash (x ∷ l) (y ∷ m) a apart' h k =
+      ⊎_elim (λ here. seen_clash x y a here h.0 k.0) (λ later. looks_clash l m (suc a) later h.1 k.1) (one (apart_tests x y) (apart_looks l m) apart')
 
   from_clash : (l : Look) (ms : List Look) (a : ℕ) → apart_from l ms ≡ true → Begins l a → At ms a → ⊥
   from_clash l [] a apart' h k = k

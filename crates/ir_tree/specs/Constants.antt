@@ -7,7 +7,8 @@ use Rattle.ir_tree.specs.declared.constants.Gepflag.TheVariants.{Word, InRange}
 use Rattle.ir_tree.specs.declared.constants.Const.{Const}
 use Rattle.ir_tree.specs.declared.constants.Tconst.{Tconst}
 use Rattle.ir_tree.specs.declared.constants.Const.TheOpen.{Const-F, Tconst-F}
-use Rattle.ir_tree.specs.declared.constants.Const.TheOpen.Const-F.{Int, True, False, Null, Undef, Poison, Zero, Global, CStr, Array, Struct, Packed, GetElementPtr, Cast, Binop}
+use Rattle.ir_tree.specs.declared.constants.Const.TheOpen.Const-F.{Int, True, False, Null, Undef, Poison, Zero, Global, CStr, Array, Struct, Packed}
+use Rattle.ir_tree.specs.declared.constants.Const.TheOpen.Const-F.{GetElementPtr, Cast, Binop}
 use Rattle.ir_tree.specs.declared.constants.Const.TheFolds.{fold-Const}
 use Rattle.ir_tree.specs.Steps.{Step, ◌⨾◌, the, leaf, one_of, many, some, next, separated}
 use Rattle.ir_tree.specs.Types.{ty}
@@ -17,7 +18,8 @@ iflag toks = one_of toks (k.Nuw ∷ k.Iflag ∷ [])
 
 abbrev pub gepflag : List Terminal → Gepflag → Step
 gepflag toks (Word at) = one_of toks (k.Nuw ∷ k.Gepflag ∷ []) at
-gepflag toks (InRange word from to) = leaf toks k.InRange word ⨾ the toks k.LeftParen ⨾ leaf toks k.Int from ⨾ the toks k.Comma ⨾ leaf toks k.Int to ⨾ the toks k.RightParen
+gepflag toks (InRange word from to) =
+    leaf toks k.InRange word ⨾ the toks k.LeftParen ⨾ leaf toks k.Int from ⨾ the toks k.Comma ⨾ leaf toks k.Int to ⨾ the toks k.RightParen
 
 -- one layer of a constant, once each part is a step
 abbrev pub const_layer : List Terminal → Const-F Step Step → Step
@@ -32,10 +34,14 @@ const_layer toks (Global at) = leaf toks k.Global at
 const_layer toks (CStr at) = leaf toks k.CStr at
 const_layer toks (Array start parts) = leaf toks k.LeftBracket start ⨾ separated toks (λ part. part) parts ⨾ the toks k.RightBracket
 const_layer toks (Struct start parts) = leaf toks k.LeftBrace start ⨾ separated toks (λ part. part) parts ⨾ the toks k.RightBrace
-const_layer toks (Packed start parts) = leaf toks k.Less start ⨾ the toks k.LeftBrace ⨾ separated toks (λ part. part) parts ⨾ the toks k.RightBrace ⨾ the toks k.Greater
-const_layer toks (GetElementPtr op flags elem operands) = leaf toks k.GetElementPtr op ⨾ many (gepflag toks) flags ⨾ the toks k.LeftParen ⨾ ty toks elem ⨾ some (next toks (λ operand. operand)) operands ⨾ the toks k.RightParen
+const_layer toks (Packed start parts) =
+    leaf toks k.Less start ⨾ the toks k.LeftBrace ⨾ separated toks (λ part. part) parts ⨾ the toks k.RightBrace ⨾ the toks k.Greater
+const_layer toks (GetElementPtr op flags elem operands) =
+    leaf toks k.GetElementPtr op ⨾ many (gepflag toks) flags ⨾ the toks k.LeftParen ⨾ ty toks elem ⨾ some (next toks (λ operand. operand)) operands ⨾ the toks
+    k.RightParen
 const_layer toks (Cast op of to) = leaf toks k.ConstCast op ⨾ the toks k.LeftParen ⨾ of ⨾ the toks k.To ⨾ ty toks to ⨾ the toks k.RightParen
-const_layer toks (Binop op flags left right) = leaf toks k.ConstBinop op ⨾ many (iflag toks) flags ⨾ the toks k.LeftParen ⨾ left ⨾ the toks k.Comma ⨾ right ⨾ the toks k.RightParen
+const_layer toks (Binop op flags left right) =
+    leaf toks k.ConstBinop op ⨾ many (iflag toks) flags ⨾ the toks k.LeftParen ⨾ left ⨾ the toks k.Comma ⨾ right ⨾ the toks k.RightParen
 
 -- a type and a constant, once the constant is a step
 abbrev pub tconst_layer : List Terminal → Tconst-F Step Step → Step

@@ -41,7 +41,8 @@ abbrev pub initial : List Terminal → Const → Step
 initial toks c = where_not (names_next toks) (const toks c)
 
 abbrev pub global_var : List Terminal → GlobalVar → Step
-global_var toks x = leaf toks k.Global x.name ⨾ the toks k.Equals ⨾ optional (leaf toks k.Linkage) x.linkage ⨾ many (gword toks) x.words ⨾ leaf toks k.Variable x.kind ⨾ ty toks x.ty ⨾ optional (initial toks) x.initial ⨾ many (next toks (gtail toks)) x.tails ⨾ many (leaf toks k.Group) x.groups
+global_var toks x = leaf toks k.Global x.name ⨾ the toks k.Equals ⨾ optional (leaf toks k.Linkage) x.linkage ⨾ many (gword toks) x.words ⨾ leaf toks k.Variable
+    x.kind ⨾ ty toks x.ty ⨾ optional (initial toks) x.initial ⨾ many (next toks (gtail toks)) x.tails ⨾ many (leaf toks k.Group) x.groups
 
 abbrev pub declare : List Terminal → Declare → Step
 declare toks x = leaf toks k.Declare x.word ⨾ many (attach toks) x.attached ⨾ header toks x.header
@@ -58,7 +59,8 @@ entity toks (entity_of.Opaque at) = leaf toks k.Opaque at
 entity toks (entity_of.SourceFilename name) = the toks k.SourceFilename ⨾ the toks k.Equals ⨾ leaf toks k.Str name
 entity toks (entity_of.Target which text) = the toks k.Target ⨾ leaf toks k.TargetPart which ⨾ the toks k.Equals ⨾ leaf toks k.Str text
 entity toks (entity_of.Named name kind) = leaf toks k.Local name ⨾ the toks k.Equals ⨾ the toks k.TypeWord ⨾ type_body toks kind
-entity toks (entity_of.Attributes group words) = the toks k.Attributes ⨾ leaf toks k.Group group ⨾ the toks k.Equals ⨾ the toks k.LeftBrace ⨾ many (gattr toks) words ⨾ the toks k.RightBrace
+entity toks (entity_of.Attributes group words) =
+    the toks k.Attributes ⨾ leaf toks k.Group group ⨾ the toks k.Equals ⨾ the toks k.LeftBrace ⨾ many (gattr toks) words ⨾ the toks k.RightBrace
 entity toks (entity_of.GlobalVar x) = global_var toks x
 entity toks (entity_of.Declare x) = declare toks x
 entity toks (entity_of.Define x) = define toks x

@@ -32,4 +32,6 @@ ftail toks (ftail_of.Extra at value) = leaf toks k.Extra at ⨾ tconst toks valu
 ftail toks (ftail_of.Attach a) = attach toks a
 
 abbrev pub header : List Terminal → Header → Step
-header toks x = optional (leaf toks k.Linkage) x.linkage ⨾ many (leaf toks k.Hword) x.words ⨾ optional (cc toks) x.cc ⨾ many (rattr toks) x.result_words ⨾ ty toks x.result ⨾ leaf toks k.Global x.name ⨾ the toks k.LeftParen ⨾ params toks x.params ⨾ leaf toks k.RightParen x.close ⨾ optional (leaf toks k.Unnamed) x.unnamed ⨾ many (word toks) x.attributes ⨾ many (ftail toks) x.tails
+header toks x = optional (leaf toks k.Linkage) x.linkage ⨾ many (leaf toks k.Hword) x.words ⨾ optional (cc toks) x.cc ⨾ many (rattr toks) x.result_words ⨾ ty
+    toks x.result ⨾ leaf toks k.Global x.name ⨾ the toks k.LeftParen ⨾ params toks x.params ⨾ leaf toks k.RightParen x.close ⨾ optional (leaf toks k.Unnamed)
+    x.unnamed ⨾ many (word toks) x.attributes ⨾ many (ftail toks) x.tails

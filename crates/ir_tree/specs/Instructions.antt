@@ -63,16 +63,21 @@ abbrev pub call : List Terminal → Call → Step
 call toks x = optional (leaf toks k.Tail) x.tail ⨾ leaf toks k.Call x.op ⨾ called toks x.called
 
 abbrev pub instr : List Terminal → Instr → Step
-instr toks (instr_of.Binop op flags kind left right) = binop toks op ⨾ many (iflag toks) flags ⨾ ty toks kind ⨾ value toks left ⨾ the toks k.Comma ⨾ value toks right
-instr toks (instr_of.Icmp x) = leaf toks k.Icmp x.op ⨾ many (iflag toks) x.flags ⨾ leaf toks k.Pred x.pred ⨾ ty toks x.ty ⨾ value toks x.left ⨾ the toks k.Comma ⨾ value toks x.right
+instr toks (instr_of.Binop op flags kind left right) =
+    binop toks op ⨾ many (iflag toks) flags ⨾ ty toks kind ⨾ value toks left ⨾ the toks k.Comma ⨾ value toks right
+instr toks (instr_of.Icmp x) = leaf toks k.Icmp x.op ⨾ many (iflag toks) x.flags ⨾ leaf toks k.Pred x.pred ⨾ ty toks x.ty ⨾ value toks x.left ⨾ the toks k.Comma
+    ⨾ value toks x.right
 instr toks (instr_of.Cast op flags of to) = castop toks op ⨾ many (iflag toks) flags ⨾ tvalue toks of ⨾ the toks k.To ⨾ ty toks to
 instr toks (instr_of.Select x) = leaf toks k.Select x.op ⨾ tvalue toks x.on ⨾ the toks k.Comma ⨾ tvalue toks x.yes ⨾ the toks k.Comma ⨾ tvalue toks x.no
 instr toks (instr_of.Freeze op of) = leaf toks k.Freeze op ⨾ tvalue toks of
 instr toks (instr_of.Phi op kind arms) = leaf toks k.Phi op ⨾ ty toks kind ⨾ listed toks (arm toks) arms
 instr toks (instr_of.Alloca x) = leaf toks k.Alloca x.op ⨾ ty toks x.ty ⨾ optional (next toks (tvalue toks)) x.count ⨾ alignment toks x.align
-instr toks (instr_of.Load op hidden kind from align) = leaf toks k.Load op ⨾ volatile toks hidden ⨾ ty toks kind ⨾ the toks k.Comma ⨾ tvalue toks from ⨾ alignment toks align
-instr toks (instr_of.Store x) = leaf toks k.Store x.op ⨾ volatile toks x.volatile ⨾ tvalue toks x.value ⨾ the toks k.Comma ⨾ tvalue toks x.to ⨾ alignment toks x.align
-instr toks (instr_of.GetElementPtr op flags elem operands) = leaf toks k.GetElementPtr op ⨾ many (gepflag toks) flags ⨾ ty toks elem ⨾ some (next toks (tvalue toks)) operands
+instr toks (instr_of.Load op hidden kind from align) =
+    leaf toks k.Load op ⨾ volatile toks hidden ⨾ ty toks kind ⨾ the toks k.Comma ⨾ tvalue toks from ⨾ alignment toks align
+instr toks (instr_of.Store x) =
+    leaf toks k.Store x.op ⨾ volatile toks x.volatile ⨾ tvalue toks x.value ⨾ the toks k.Comma ⨾ tvalue toks x.to ⨾ alignment toks x.align
+instr toks (instr_of.GetElementPtr op flags elem operands) =
+    leaf toks k.GetElementPtr op ⨾ many (gepflag toks) flags ⨾ ty toks elem ⨾ some (next toks (tvalue toks)) operands
 instr toks (instr_of.Call x) = call toks x
 instr toks (instr_of.Cleanup op kind cleanup clauses) = leaf toks k.LandingPad op ⨾ ty toks kind ⨾ leaf toks k.Cleanup cleanup ⨾ many (clause toks) clauses
 instr toks (instr_of.LandingPad op kind clauses) = leaf toks k.LandingPad op ⨾ ty toks kind ⨾ some (clause toks) clauses
@@ -89,6 +94,7 @@ term toks (term_of.RetVoid op) = leaf toks k.Ret op ⨾ the toks k.Void
 term toks (term_of.Ret op of) = leaf toks k.Ret op ⨾ where_not (stands toks k.Void) (tvalue toks of)
 term toks (term_of.Jump op to) = leaf toks k.Br op ⨾ target toks to
 term toks (term_of.Branch op on taken other) = leaf toks k.Br op ⨾ tvalue toks on ⨾ the toks k.Comma ⨾ target toks taken ⨾ the toks k.Comma ⨾ target toks other
-term toks (term_of.Switch x) = leaf toks k.Switch x.op ⨾ tvalue toks x.on ⨾ the toks k.Comma ⨾ target toks x.other ⨾ the toks k.LeftBracket ⨾ many (case toks) x.cases ⨾ the toks k.RightBracket
+term toks (term_of.Switch x) = leaf toks k.Switch x.op ⨾ tvalue toks x.on ⨾ the toks k.Comma ⨾ target toks x.other ⨾ the toks k.LeftBracket ⨾ many (case toks)
+    x.cases ⨾ the toks k.RightBracket
 term toks (term_of.Unreachable op) = leaf toks k.Unreachable op
 term toks (term_of.Resume op of) = leaf toks k.Resume op ⨾ tvalue toks of

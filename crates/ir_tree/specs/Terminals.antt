@@ -44,7 +44,12 @@ abbrev pub of_word : Bytes → Terminal
 of_word w = if is_int_type w then k.IntType else (if is_cc_name w then k.CcWord else found (row_of (slice_index w 0)) w)
 
 abbrev pub of_mark : ℕ → Terminal
-of_mark c = if c == 40 then k.LeftParen else (if c == 41 then k.RightParen else (if c == 91 then k.LeftBracket else (if c == 93 then k.RightBracket else (if c == 123 then k.LeftBrace else (if c == 125 then k.RightBrace else (if c == 60 then k.Less else (if c == 62 then k.Greater else (if c == 44 then k.Comma else k.Equals))))))))
+of_mark c = if c == 40 then k.LeftParen else
+    (if c == 41 then k.RightParen else
+    (if c == 91 then k.LeftBracket else
+    (if c == 93 then k.RightBracket else
+    (if c == 123 then k.LeftBrace else
+    (if c == 125 then k.RightBrace else (if c == 60 then k.Less else (if c == 62 then k.Greater else (if c == 44 then k.Comma else k.Equals))))))))
 
 -- what a token of a kind is, whose bytes are these
 abbrev pub of_kind : Kind → Bytes → Terminal

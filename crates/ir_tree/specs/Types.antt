@@ -17,7 +17,8 @@ type_layer toks (Int at) = leaf toks k.IntType at
 type_layer toks (Ptr at) = leaf toks k.Ptr at
 type_layer toks (Array start count elem) = leaf toks k.LeftBracket start ⨾ leaf toks k.Int count ⨾ the toks k.Times ⨾ elem ⨾ the toks k.RightBracket
 type_layer toks (Struct start parts) = leaf toks k.LeftBrace start ⨾ separated toks (λ part. part) parts ⨾ the toks k.RightBrace
-type_layer toks (Packed start parts) = leaf toks k.Less start ⨾ the toks k.LeftBrace ⨾ separated toks (λ part. part) parts ⨾ the toks k.RightBrace ⨾ the toks k.Greater
+type_layer toks (Packed start parts) =
+    leaf toks k.Less start ⨾ the toks k.LeftBrace ⨾ separated toks (λ part. part) parts ⨾ the toks k.RightBrace ⨾ the toks k.Greater
 type_layer toks (Named name) = leaf toks k.Local name
 
 abbrev pub ty : List Terminal → Ty → Step

@@ -1,9 +1,9 @@
 -- A type is put at the end of the table.
 use Rattle.std.proofs.Common.{ℕ, zero, suc, ◌≡◌, refl, sym, ap, subst, ◌∙◌, arith, inl, inr, None, Some, List, [], ◌∷◌, ◌++◌, length, take, drop}
-use Rattle.std.specs.Prelude.{slice_get, ◌⊎◌}
 use Rattle.std.proofs.Math.Seq.{drop-length}
 use Rattle.std.proofs.lemmas.List.{append-nil, take_all, length-append}
-use Rattle.std.proofs.lemmas.Option.{none-some, same_Some}
+use Rattle.std.proofs.lemmas.Option.{none-some}
+use Rattle.shelf.proofs.Shelf.{get_push}
 use Rattle.ir_types.specs.declared.ir_type.IrType.{IrType}
 use Rattle.ir_types.specs.declared.standing.Standing.{Standing}
 use Rattle.ir_types.specs.declared.standing.Standing.TheVariants.{Waiting}
@@ -19,16 +19,6 @@ laid_push [] known zero = refl
 laid_push [] known (suc u) = refl
 laid_push (s ∷ ss) known zero = refl
 laid_push (s ∷ ss) known (suc u) = laid_push ss known u
-
-pub get_push : {A : Type 0} (xs : List A) (x y : A) (k : ℕ) → slice_get (xs ++ x ∷ []) k ≡ Some y → (slice_get xs k ≡ Some y) ⊎ ((k ≡ length xs) × (x ≡ y))
-get_push [] x y zero e = inr (refl, same_Some x y e)
-get_push [] x y (suc k) e = absurd (none-some y e)
-get_push (z ∷ xs) x y zero e = inl e
-get_push (z ∷ xs) x y (suc k) e =
-    elim (get_push xs x y k e) [
-      | inl before ↦ inl before
-      | inr last ↦ inr (omega (arith, last.0), last.1)
-    ]
 
 pub more_notes : (types : List IrType) (ss : List Standing) (old new : List (List ℕ)) → HasAll old new → IsKept types ss old → IsKept types ss new
 more_notes types ss old new keeps kept = record {

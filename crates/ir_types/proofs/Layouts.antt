@@ -6,6 +6,7 @@ use Rattle.std.specs.Option.{option_map, option_and_then}
 use Rattle.std.proofs.lemmas.Option.{none-some, same_Some, slice_get-map, slice_get-get_or}
 use Rattle.std.proofs.lemmas.List.{map-append, take_more}
 use Rattle.attr_ids.specs.declared.ids.TypeId.{TypeId}
+use Rattle.shelf.proofs.Shelf.{get_kept}
 use Rattle.ir_types.specs.declared.ir_type.IrType.{IrType}
 use Rattle.ir_types.specs.declared.ir_type.IrType.TheVariants.{Void, Int, Ptr, Array, Struct, Opaque}
 use Rattle.ir_types.specs.IrType.{numbers, parts}
@@ -26,11 +27,6 @@ pub joined_some : (o : Option Layout) (others : Option (List Layout)) (ls : List
 joined_some None others ls e = absurd (none-some ls e)
 joined_some (Some l) None ls e = absurd (none-some ls e)
 joined_some (Some l) (Some rest) ls e = (l, rest, refl, refl, same_Some (l ∷ rest) ls e)
-
-pub get_appended : {A : Type 0} (xs ys : List A) (k : ℕ) (x : A) → slice_get xs k ≡ Some x → slice_get (xs ++ ys) k ≡ Some x
-get_appended [] ys k x e = absurd (none-some x e)
-get_appended (y ∷ xs) ys zero x e = e
-get_appended (y ∷ xs) ys (suc k) x e = get_appended xs ys k x e
 
 -- ---- the parts of a struct
 pub numbers_more : (fields : List TypeId) (i : ℕ) (d : TypeId) → i < length fields
@@ -246,8 +242,8 @@ layout_at types k n t l b e =
 pub layout_appended : (types more : List IrType) (k t : ℕ) (l : Layout) → layout types k t ≡ Some l → layout (types ++ more) k t ≡ Some l
 layout_appended types more zero t l e =
     let from = layout_flat types t l e in
-    layout_from_flat (types ++ more) t l from.0 (get_appended types more t from.0 from.1) from.2
+    layout_from_flat (types ++ more) t l from.0 (get_kept types more t from.0 from.1) from.2
 layout_appended types more (suc k) t l e =
     let from = layout_entry types k t l e in
-    layout_from_entry (types ++ more) k t l from.0 (get_appended types more t from.0 from.1)
+    layout_from_entry (types ++ more) k t l from.0 (get_kept types more t from.0 from.1)
     (laid_out_along (layout types k) (layout (types ++ more) k) from.0 l from.2 (λ u p is b. layout_appended types more k u p is))

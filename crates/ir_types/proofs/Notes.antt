@@ -5,10 +5,9 @@ use Rattle.std.specs.Prelude.{slice_get}
 use Rattle.std.specs.Option.{unwrap_or, option_eq}
 use Rattle.std.proofs.lemmas.Option.{none-some, same_Some, slice_get_read}
 use Rattle.std.proofs.lemmas.Bool.{cases_eq, true≢false, eqb-true}
+use Rattle.shelf.proofs.Shelf.{get_kept, get_set_same, get_set_other}
 use Rattle.ir_types.specs.declared.standing.Standing.{Standing}
 use Rattle.ir_types.specs.Standing.{Has, HasAll, laid, users_of}
-use Rattle.ir_types.proofs.Layouts.{get_appended}
-use Rattle.ir_types.proofs.Standings.{get_set_same, get_set_other}
 
 -- room for one more part
 pub room_keeps : (users : List (List ℕ)) → HasAll users (users ++ [] ∷ [])
@@ -16,13 +15,13 @@ room_keeps users part t h = go (slice_get users part) refl h
   where
     go : (o : Option (List ℕ)) → slice_get users part ≡ o → Has (unwrap_or o []) t → Has (users_of (users ++ [] ∷ []) part) t
     go None is has = absurd (none-some t has.1)
-    go (Some ts) is has = subst (λ (o : Option (List ℕ)). Has (unwrap_or o []) t) (sym (get_appended users ([] ∷ []) part ts is)) has
+    go (Some ts) is has = subst (λ (o : Option (List ℕ)). Has (unwrap_or o []) t) (sym (get_kept users ([] ∷ []) part ts is)) has
 
 pub users_at_set : (users : List (List ℕ)) (part : ℕ) (ts : List ℕ) → part < length users → users_of (set users part ts) part ≡ ts
 users_at_set users part ts l = ap (λ (o : Option (List ℕ)). unwrap_or o []) (get_set_same users part ts l)
 
 pub has_pushed : (ts : List ℕ) (user t : ℕ) → Has ts t → Has (ts ++ user ∷ []) t
-has_pushed ts user t (k, at) = (k, get_appended ts (user ∷ []) k t at)
+has_pushed ts user t (k, at) = (k, get_kept ts (user ∷ []) k t at)
 
 pub has_new : (ts : List ℕ) (user : ℕ) → Has (ts ++ user ∷ []) user
 has_new [] user = (zero, refl)

@@ -3,18 +3,19 @@ use Rattle.std.proofs.Common.{ℕ, zero, suc, ◌≤◌, ◌≡◌, refl, sym, a
 use Rattle.std.specs.Prelude.{slice_get}
 use Rattle.std.proofs.lemmas.Option.{none-some, same_Some, slice_get_within}
 use Rattle.std.proofs.lemmas.Bool.{cases_eq}
+use Rattle.shelf.proofs.Shelf.{get_kept}
 use Rattle.ir_types.specs.declared.ir_type.IrType.{IrType}
 use Rattle.ir_types.specs.declared.standing.Extent.{Extent}
 use Rattle.ir_types.specs.declared.standing.Standing.{Standing}
 use Rattle.ir_types.specs.IrType.{parts}
 use Rattle.ir_types.specs.Layout.{Layout, layout}
 use Rattle.ir_types.specs.Standing.{Shows, AreSound, AreSettledBut, AreWaiting, Grows, Has, IsBlocked, laid, users_of}
-use Rattle.ir_types.proofs.Layouts.{get_appended, laid_out_part, flat_has_no_part, layout_depth, layout_entry, layout_flat, layout_at}
+use Rattle.ir_types.proofs.Layouts.{laid_out_part, flat_has_no_part, layout_depth, layout_entry, layout_flat, layout_at}
 use Rattle.ir_types.proofs.Standings.{blocked_alike}
 
 -- ---- lists of numbers
 pub has_left : (xs ys : List ℕ) (x : ℕ) → Has xs x → Has (xs ++ ys) x
-has_left xs ys x (k, at) = (k, get_appended xs ys k x at)
+has_left xs ys x (k, at) = (k, get_kept xs ys k x at)
 
 pub has_right : (xs ys : List ℕ) (x : ℕ) → Has ys x → Has (xs ++ ys) x
 has_right [] ys x h = h

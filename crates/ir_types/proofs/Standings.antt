@@ -1,9 +1,10 @@
 -- What is kept of types, before and after a write.
-use Rattle.std.proofs.Common.{ℕ, zero, suc, ◌<◌, ◌≤◌, ◌≡◌, refl, sym, ap, subst, ◌∙◌, arith, inl, inr, Option, None, Some, List, [], ◌∷◌, length, get_or, set}
+use Rattle.std.proofs.Common.{ℕ, suc, ◌<◌, ◌≤◌, ◌≡◌, sym, ap, subst, ◌∙◌, arith, inl, inr, Option, None, Some, List, [], ◌∷◌, length, get_or, set}
 use Rattle.std.specs.Prelude.{slice_get, IfSome}
 use Rattle.std.specs.Option.{option_and_then}
 use Rattle.std.proofs.lemmas.Option.{none-some, same_Some, slice_get-get_or}
 use Rattle.std.proofs.lemmas.Bool.{cases_eq}
+use Rattle.shelf.proofs.Shelf.{get_set_same, get_set_other}
 use Rattle.ir_types.specs.declared.ir_type.IrType.{IrType}
 use Rattle.ir_types.specs.declared.standing.Extent.{Extent}
 use Rattle.ir_types.specs.declared.standing.Standing.{Standing}
@@ -11,18 +12,6 @@ use Rattle.ir_types.specs.declared.standing.Standing.TheVariants.{Waiting}
 use Rattle.ir_types.specs.Layout.{Layout, laid_out, layout}
 use Rattle.ir_types.specs.Standing.{Shows, Agrees, AreSound, IsBlocked, extent_of, laid}
 use Rattle.ir_types.proofs.Layouts.{layout_from_entry, layout_tight}
-
-pub get_set_same : {A : Type 0} (xs : List A) (i : ℕ) (v : A) → i < length xs → slice_get (set xs i v) i ≡ Some v
-get_set_same [] i v l = absurd (omega arith)
-get_set_same (x ∷ xs) zero v l = refl
-get_set_same (x ∷ xs) (suc i) v l = get_set_same xs i v (omega arith)
-
-pub get_set_other : {A : Type 0} (xs : List A) (i j : ℕ) (v : A) → (j ≡ i → ⊥) → slice_get (set xs i v) j ≡ slice_get xs j
-get_set_other [] i j v n = refl
-get_set_other (x ∷ xs) zero zero v n = absurd (n refl)
-get_set_other (x ∷ xs) zero (suc j) v n = refl
-get_set_other (x ∷ xs) (suc i) zero v n = refl
-get_set_other (x ∷ xs) (suc i) (suc j) v n = get_set_other xs i j v (λ e. n (ap suc e))
 
 pub laid_same : (ss : List Standing) (t : ℕ) (s : Standing) → t < length ss → laid (set ss t s) t ≡ extent_of s
 laid_same ss t s l = ap (option_and_then extent_of) (get_set_same ss t s l)

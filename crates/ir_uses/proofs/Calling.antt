@@ -4,7 +4,7 @@ use Rattle.std.proofs.Common.{⊎_elim, None}
 use Rattle.std.proofs.lemmas.Option.{slice_get_within}
 use Rattle.std.proofs.lemmas.Bool.{cases_eq, cases_lt}
 use Rattle.attr_ids.specs.declared.ids.FuncId.{FuncId}
-use Rattle.ir_types.proofs.Standings.{get_set_same, get_set_other}
+use Rattle.shelf.proofs.Shelf.{get_kept, get_behind, get_push, get_set_same, get_set_other}
 use Rattle.ir_module.specs.declared.op.Instr.{Instr}
 use Rattle.ir_module.specs.declared.module.Seg.{Seg}
 use Rattle.ir_module.specs.declared.module.Module.{Module}
@@ -15,7 +15,6 @@ use Rattle.ir_module.specs.declared.module.Spot.{Spot}
 use Rattle.ir_uses.specs.Order.{IsCallBefore}
 use Rattle.ir_uses.specs.Uses.{IsCallAt, IsCallList}
 use Rattle.ir_uses.specs.Noted.{IsCallListTo, AreCallListsTo}
-use Rattle.ir_uses.proofs.Listing.{get_last, get_kept, get_cases}
 
 -- ---- the order of calls
 
@@ -56,7 +55,7 @@ passed m s i f cs l n = record {
 pub pushed_each : (m : Module) (s i f : ℕ) (cs : List Spot) → IsCallListTo m (spot s i) f cs → IsCallAt m f (spot s i)
     → (k : ℕ) (c : Spot) → slice_get (cs ++ spot s i ∷ []) k ≡ Some c → IsCallAt m f c × IsCallBefore c (spot s (i + 1))
 pushed_each m s i f cs l at k c e =
-    elim (get_cases cs (spot s i) c k e) [
+    elim (get_push cs (spot s i) c k e) [
       | inl g ↦ (l.each k c g, next_of_before c s i (l.before k c g))
       | inr g ↦ (subst (λ (x : Spot). IsCallAt m f x) g.1 at, subst (λ (x : Spot). IsCallBefore x (spot s (i + 1))) g.1 (itself_before_next s i))
     ]
@@ -64,12 +63,12 @@ pushed_each m s i f cs l at k c e =
 pub pushed_order : (m : Module) (s i f : ℕ) (cs : List Spot) → IsCallListTo m (spot s i) f cs
     → (k n : ℕ) (a b : Spot) → k < n → slice_get (cs ++ spot s i ∷ []) k ≡ Some a → slice_get (cs ++ spot s i ∷ []) n ≡ Some b → IsCallBefore a b
 pushed_order m s i f cs l k n a b less ea eb =
-    elim (get_cases cs (spot s i) b n eb) [
-      | inl fb ↦ elim (get_cases cs (spot s i) a k ea) [
+    elim (get_push cs (spot s i) b n eb) [
+      | inl fb ↦ elim (get_push cs (spot s i) a k ea) [
         | inl fa ↦ l.order k n a b less fa fb
         | inr fa ↦ absurd (omega (arith, fa.0, slice_get_within cs n b fb))
       ]
-      | inr fb ↦ elim (get_cases cs (spot s i) a k ea) [
+      | inr fb ↦ elim (get_push cs (spot s i) a k ea) [
         | inl fa ↦ subst (λ (x : Spot). IsCallBefore a x) fb.1 (l.before k a fa)
         | inr fa ↦ absurd (omega (arith, fa.0, fb.0))
       ]
@@ -82,8 +81,8 @@ pushed m s i f cs l at = record {
   each = λ k c e. (pushed_each m s i f cs l at k c e).0;
   before = λ k c e. (pushed_each m s i f cs l at k c e).1;
   all = λ c a b. elim (before_next c s i b) [
-    | inl d ↦ (let q = l.all c a d in (q.0, get_kept cs (spot s i) c q.0 q.1))
-    | inr e ↦ (length cs, subst (λ (x : Spot). slice_get (cs ++ spot s i ∷ []) (length cs) ≡ Some x) (sym e) (get_last cs (spot s i)))
+    | inl d ↦ (let q = l.all c a d in (q.0, get_kept cs (spot s i ∷ []) q.0 c q.1))
+    | inr e ↦ (length cs, subst (λ (x : Spot). slice_get (cs ++ spot s i ∷ []) (length cs) ≡ Some x) (sym e) (get_behind cs (spot s i) []))
   ];
   order = pushed_order m s i f cs l;
 }

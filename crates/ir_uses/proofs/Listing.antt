@@ -1,10 +1,10 @@
 -- Lists of uses that grow in text order.
-use Rattle.std.proofs.Common.{◌≡◌, ◌+◌, ◌^◌, ◌<◌, ◌≤◌, ◌⊎◌, inl, inr, ℕ, zero, suc, length, slice_get, slice_set, List, [], ◌∷◌, ◌++◌, Some, arith, refl}
+use Rattle.std.proofs.Common.{◌≡◌, ◌+◌, ◌^◌, ◌<◌, ◌≤◌, ◌⊎◌, inl, inr, ℕ, length, slice_get, slice_set, List, [], ◌∷◌, ◌++◌, Some, arith}
 use Rattle.std.proofs.Common.{subst, sym, ap, ◌∙◌, ⊎_elim}
 use Rattle.std.proofs.lemmas.Option.{slice_get_within}
 use Rattle.std.proofs.lemmas.Bool.{cases_eq, cases_lt}
-use Rattle.ir_types.proofs.Standings.{get_set_same, get_set_other}
 use Rattle.attr_ids.specs.declared.ids.ValueId.{ValueId}
+use Rattle.shelf.proofs.Shelf.{get_there, get_kept, get_behind, get_push, get_set_same, get_set_other}
 use Rattle.ir_module.specs.declared.op.Operand.TheVariants as operand
 use Rattle.ir_module.specs.declared.op.Written.{Written}
 use Rattle.ir_module.specs.declared.op.Instr.{Instr}
@@ -15,29 +15,12 @@ use Rattle.ir_module.specs.Places.{spot, instr_at}
 use Rattle.ir_module.specs.Operands.{operands}
 use Rattle.ir_module.specs.WellFormed.{HasFew}
 use Rattle.ir_module.proofs.Spots.{stands}
-use Rattle.ir_module.proofs.Runs.{there}
 use Rattle.ir_uses.specs.declared.lists.Use.{Use}
 use Rattle.ir_uses.specs.Order.{IsBefore}
 use Rattle.ir_uses.specs.Uses.{IsUseAt, IsUseList}
 use Rattle.ir_uses.specs.Noted.{use_at, IsUseListTo, AreUseListsTo}
 
 -- ---- a list and one more
-
-pub get_last : {X : Type 0} → (xs : List X) (x : X) → slice_get (xs ++ x ∷ []) (length xs) ≡ Some x
-get_last [] x = refl
-get_last (y ∷ xs) x = get_last xs x
-
-pub get_kept : {X : Type 0} → (xs : List X) (x y : X) (k : ℕ) → slice_get xs k ≡ Some y → slice_get (xs ++ x ∷ []) k ≡ Some y
-get_kept [] x y k h = cc
-get_kept (z ∷ xs) x y zero h = h
-get_kept (z ∷ xs) x y (suc k) h = get_kept xs x y k h
-
--- an element of the longer list is one of the list, or the one at its end
-pub get_cases : {X : Type 0} → (xs : List X) (x y : X) (k : ℕ) → slice_get (xs ++ x ∷ []) k ≡ Some y → (slice_get xs k ≡ Some y) ⊎ ((k ≡ length xs) × (x ≡ y))
-get_cases [] x y zero h = inr (refl, (cc))
-get_cases [] x y (suc k) h = cc
-get_cases (z ∷ xs) x y zero h = inl h
-get_cases (z ∷ xs) x y (suc k) h = elim (get_cases xs x y k h) [ inl e ↦ inl e | inr e ↦ inr (omega (arith, e.0), e.1) ]
 
 -- ---- the order of uses
 
@@ -84,7 +67,7 @@ passed m s i j v us l n = record {
 pub pushed_each : (m : Module) (s i j v : ℕ) (us : List Use) → IsUseListTo m (use_at s i j) v us → IsUseAt m v (use_at s i j)
     → (k : ℕ) (u : Use) → slice_get (us ++ use_at s i j ∷ []) k ≡ Some u → IsUseAt m v u × IsBefore u (use_at s i (j + 1))
 pushed_each m s i j v us l at k u e =
-    elim (get_cases us (use_at s i j) u k e) [
+    elim (get_push us (use_at s i j) u k e) [
       | inl f ↦ (l.each k u f, next_of_before u s i j (l.before k u f))
       | inr f ↦ (subst (λ (x : Use). IsUseAt m v x) f.1 at, subst (λ (x : Use). IsBefore x (use_at s i (j + 1))) f.1 (itself_before_next s i j))
     ]
@@ -92,12 +75,12 @@ pushed_each m s i j v us l at k u e =
 pub pushed_order : (m : Module) (s i j v : ℕ) (us : List Use) → IsUseListTo m (use_at s i j) v us
     → (k n : ℕ) (a b : Use) → k < n → slice_get (us ++ use_at s i j ∷ []) k ≡ Some a → slice_get (us ++ use_at s i j ∷ []) n ≡ Some b → IsBefore a b
 pushed_order m s i j v us l k n a b less ea eb =
-    elim (get_cases us (use_at s i j) b n eb) [
-      | inl fb ↦ elim (get_cases us (use_at s i j) a k ea) [
+    elim (get_push us (use_at s i j) b n eb) [
+      | inl fb ↦ elim (get_push us (use_at s i j) a k ea) [
         | inl fa ↦ l.order k n a b less fa fb
         | inr fa ↦ absurd (omega (arith, fa.0, slice_get_within us n b fb))
       ]
-      | inr fb ↦ elim (get_cases us (use_at s i j) a k ea) [
+      | inr fb ↦ elim (get_push us (use_at s i j) a k ea) [
         | inl fa ↦ subst (λ (x : Use). IsBefore a x) fb.1 (l.before k a fa)
         | inr fa ↦ absurd (omega (arith, fa.0, fb.0))
       ]
@@ -110,8 +93,8 @@ pushed m s i j v us l at = record {
   each = λ k u e. (pushed_each m s i j v us l at k u e).0;
   before = λ k u e. (pushed_each m s i j v us l at k u e).1;
   all = λ u a b. elim (before_next u s i j b) [
-    | inl c ↦ (let q = l.all u a c in (q.0, get_kept us (use_at s i j) u q.0 q.1))
-    | inr e ↦ (length us, subst (λ (x : Use). slice_get (us ++ use_at s i j ∷ []) (length us) ≡ Some x) (sym e) (get_last us (use_at s i j)))
+    | inl c ↦ (let q = l.all u a c in (q.0, get_kept us (use_at s i j ∷ []) q.0 u q.1))
+    | inr e ↦ (length us, subst (λ (x : Use). slice_get (us ++ use_at s i j ∷ []) (length us) ≡ Some x) (sym e) (get_behind us (use_at s i j) []))
   ];
   order = pushed_order m s i j v us l;
 }
@@ -189,7 +172,7 @@ pub noted_all : (m : Module) (s i j w : ℕ) (old new : List (List Use)) → Are
     → (length old ≤ w → new ≡ old) → ((us : List Use) → slice_get old w ≡ Some us → new ≡ slice_set old w (us ++ use_at s i j ∷ []))
     → AreUseListsTo m (use_at s i (j + 1)) new
 noted_all m s i j w old new h at out set = elim (cases_lt w (length old)) [
-  | inl inside ↦ (let q = there old w inside in noted_in m s i j w old new q.0 h at q.1 (set q.0 q.1))
+  | inl inside ↦ (let q = get_there old w inside in noted_in m s i j w old new q.0 h at q.1 (set q.0 q.1))
   | inr past ↦ subst (λ (xs : List (List Use)). AreUseListsTo m (use_at s i (j + 1)) xs) (sym (out past)) (noted_out m s i j w old h at past)
 ]
 

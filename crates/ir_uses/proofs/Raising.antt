@@ -8,14 +8,11 @@ use Rattle.std.proofs.lemmas.Option.{get_or_from_slice_get}
 use Rattle.std.proofs.lemmas.List.Folds.{list_any_more, list_any-append}
 use Rattle.std.proofs.lemmas.Bool.{cases_eq}
 use Rattle.std.proofs.Math.ListN.{length-set}
-use Rattle.ir_types.proofs.Standings.{get_set_same, get_set_other}
+use Rattle.std.proofs.Math.Bool.{or-false}
+use Rattle.shelf.proofs.Shelf.{get_set_same, get_set_other}
 use Rattle.ir_module.specs.declared.module.Func.{Func}
 use Rattle.ir_module.specs.Calls.{is_open_in}
 use Rattle.ir_uses.specs.Raised.{Raises}
-
-or_false : (b : Bool) → (b || false) ≡ b
-or_false true = refl
-or_false false = refl
 
 or_assoc : (a b c : Bool) → ((a || b) || c) ≡ (a || (b || c))
 or_assoc true b c = refl
@@ -37,11 +34,11 @@ any_from {X} p xs first i x low l e =
     let split : drop first (take i xs ++ x ∷ []) ≡ drop first (take i xs) ++ x ∷ [] =
     drop-append-le first (take i xs) (x ∷ []) (omega (arith, length-take-le i xs (omega (arith, l)), low)) in
     ap (λ (ys : List X). list_any p (drop first ys)) more ∙ ap (λ (ys : List X). list_any p ys) split
-    ∙ list_any-append p (drop first (take i xs)) (x ∷ []) ∙ ap (λ (b : Bool). list_any p (drop first (take i xs)) || b) (or_false (p x))
+    ∙ list_any-append p (drop first (take i xs)) (x ∷ []) ∙ ap (λ (b : Bool). list_any p (drop first (take i xs)) || b) (or-false (p x))
 
 -- nothing is raised
 pub unraised : (flags : List Bool) (p : ℕ → Bool) → ((f : ℕ) → p f ≡ false) → Raises flags flags p
-unraised flags p none f = map_same (λ b. b || p f) (λ b. ap (λ (x : Bool). b || x) (none f) ∙ or_false b) (slice_get flags f)
+unraised flags p none f = map_same (λ b. b || p f) (λ b. ap (λ (x : Bool). b || x) (none f) ∙ or-false b) (slice_get flags f)
 
 -- one step after another
 pub raised_twice : (old mid new : List Bool) (p q r : ℕ → Bool) → Raises old mid p → Raises mid new q → ((f : ℕ) → r f ≡ (p f || q f)) → Raises old new r

@@ -1,5 +1,6 @@
 //! The uses of values, gathered in text order.
-ghost use Rattle.std.specs.Prelude.{◌≡◌, ◌+◌, ◌<◌, ◌≤◌, ℕ, List, [], ◌∷◌, ◌++◌, length, slice_get, slice_set, Some, OnOk, IfOk, IfSome, IfNone, IsSome, IsSomeAnd};
+ghost use Rattle.std.specs.Prelude.{◌≡◌, ◌+◌, ◌<◌, ◌≤◌, ℕ, List, [], ◌∷◌, ◌++◌, length, slice_get, slice_set, Some, OnOk, IfOk, IfSome, IfNone, IsSome};
+ghost use Rattle.std.specs.Prelude.{IsSomeAnd};
 ghost use Rattle.ir_module.specs.WellFormed.{HasFew};
 ghost use Rattle.ir_module.specs.Places.{instr_at};
 ghost use Rattle.ir_module.specs.Operands.{operands};

@@ -1,7 +1,9 @@
 -- The ladders by their bits: which bit of a word decides each bit after an offset or a step.
-use Rattle.std.proofs.Common.{◌≡◌, ℕ, suc, ◌+◌, ◌-◌, ◌%◌, ◌^◌, ◌<◌, ◌≤◌, ◌⊎◌, min, Bool, true, false, cond, not, ◌&&◌, ◌||◌, leb, ltb, slice_index, bit_and, ◌==◌, Option, Some, None, refl, ap, sym, ◌∙◌, inl, inr, arith, leb-true, leb-false, le-leb}
+use Rattle.std.proofs.Common.{◌≡◌, ℕ, suc, ◌+◌, ◌-◌, ◌%◌, ◌^◌, ◌<◌, ◌≤◌, ◌⊎◌, min, Bool, true, false, cond, not, ◌&&◌, ◌||◌, leb, ltb, slice_index, bit_and}
+use Rattle.std.proofs.Common.{◌==◌, Option, Some, None, refl, ap, sym, ◌∙◌, inl, inr, arith, leb-true, leb-false, le-leb}
 use Rattle.std.specs.Int.{bit_at}
-use Rattle.std.proofs.lemmas.Bool.{agree_below, agree_below_at, cases_lt, cases_Bool, and_parts, cond-true, cond-false, and_left, and_right, and_from, lt-leb, lt-ltb, or_left}
+use Rattle.std.proofs.lemmas.Bool.{agree_below, agree_below_at, cases_lt, cases_Bool, and_parts, cond-true, cond-false, and_left, and_right, and_from, lt-leb}
+use Rattle.std.proofs.lemmas.Bool.{lt-ltb, or_left}
 use Rattle.std.specs.List.{position_or_len}
 use Rattle.std.proofs.lemmas.Nat.Bits.{bit_at_and, bit_at-zero, bit_at_mask_inside, same_from_bits_below}
 use Rattle.std.proofs.lemmas.List.{get_or_past}
@@ -9,7 +11,8 @@ use Rattle.std.proofs.lemmas.List.Sums.{position_or_len_is}
 use Rattle.std.proofs.lemmas.List.Quantifiers.{position-Some}
 use Rattle.lattice_words.specs.Words.{bit_of, has_bit}
 use Rattle.lattice_words.specs.declared.value.TheConstants.{ALL_BYTES}
-use Rattle.lattice_words.specs.Ladders.{byte_rungs, align_rungs, is_byte_bit, is_align_bit, lowest_byte_rung, has_byte_rung, shifted_bit, shift_of, kept_bit, keep_align_of, IsLowestByteRung}
+use Rattle.lattice_words.specs.Ladders.{byte_rungs, align_rungs, is_byte_bit, is_align_bit, lowest_byte_rung, has_byte_rung, shifted_bit, shift_of, kept_bit}
+use Rattle.lattice_words.specs.Ladders.{keep_align_of, IsLowestByteRung}
 use Rattle.lattice_words.proofs.WordBits.{IsDoneTo, done_all, bit_of-has_bit, bit_at-word_of, word_of-lt}
 
 pub shift_of-lt : (offset w : ℕ) → shift_of offset w < 2 ^ 64
@@ -26,7 +29,8 @@ bit_at-shift_of-other offset w i l other =
     bit_at-shift_of offset w i l ∙ ap bit_of (cond-false (is_byte_bit i) _ _ other) ∙ bit_of-has_bit w i
 
 -- a rung of bytes stays where the lowest rung high enough stood
-pub bit_at-shift_of-rung : (offset w i : ℕ) → i < 64 → is_byte_bit i ≡ true → bit_at (shift_of offset w) i ≡ bit_of (has_byte_rung w (lowest_byte_rung (slice_index byte_rungs (i - 23) + offset)))
+pub bit_at-shift_of-rung : (offset w i : ℕ) → i < 64 → is_byte_bit i ≡ true →
+    bit_at (shift_of offset w) i ≡ bit_of (has_byte_rung w (lowest_byte_rung (slice_index byte_rungs (i - 23) + offset)))
 bit_at-shift_of-rung offset w i l rung =
     bit_at-shift_of offset w i l ∙ ap bit_of (cond-true (is_byte_bit i) _ _ rung)
 
@@ -100,7 +104,10 @@ pub lowest_byte_rung-is : (n k : ℕ) → IsLowestByteRung n k → lowest_byte_r
 unfolding lowest_byte_rung
 lowest_byte_rung-is n k h =
     let e : position_or_len (leb n) byte_rungs ≡ k =
-    position_or_len_is (leb n) byte_rungs k 0 (omega (arith, h.on_ladder)) (λ j l. lt-leb n (slice_index byte_rungs j) (h.lowest j l)) (λ l. le-leb n (slice_index byte_rungs k) h.enough) in
+    position_or_len_is (leb n) byte_rungs k 0 (omega (
+      arith,
+      h.on_ladder,
+    )) (λ j l. lt-leb n (slice_index byte_rungs j) (h.lowest j l)) (λ l. le-leb n (slice_index byte_rungs k) h.enough) in
     found (position_or_len (leb n) byte_rungs) k e h.on_ladder where
       found : (p k : ℕ) → p ≡ k → k < 16 → cond (ltb p 16) (Some p) None ≡ Some k
       found p k e l = rw (e, lt-ltb k 16 l) refl
@@ -131,7 +138,8 @@ shifted_bit-rung offset w k l =
 
 -- what a search for the lowest rung found decides the bit; the search stops at 2 ^ 64 - 1, above the ladder
 module _ (offset w k lowest needed : ℕ) (stays : Bool) (on : k < 16) (needs : needed ≡ min (slice_index byte_rungs k + offset) (2 ^ 64 - 1)) where
-  pub stays_found : lowest < 16 → ((j : ℕ) → j < lowest → slice_index byte_rungs j < needed) → needed ≤ slice_index byte_rungs lowest → stays ≡ has_bit w (23 + lowest) → stays ≡ shifted_bit offset w (23 + k)
+  pub stays_found : lowest < 16 → ((j : ℕ) → j < lowest → slice_index byte_rungs j < needed) → needed ≤ slice_index byte_rungs lowest →
+      stays ≡ has_bit w (23 + lowest) → stays ≡ shifted_bit offset w (23 + k)
   stays_found within below enough is =
       let n = slice_index byte_rungs k + offset in
       let found : lowest_byte_rung n ≡ Some lowest = lowest_byte_rung-is n lowest (record {
@@ -152,7 +160,8 @@ pub kept_bit-rung : (step w k : ℕ) → k < 6 → kept_bit step w (17 + k) ≡ 
 kept_bit-rung step w k l =
     let number : (17 + k) - 17 ≡ k = omega arith in
     let on : is_align_bit (17 + k) ≡ true = and_from _ _ (le-leb 17 (17 + k) (omega arith)) (le-leb (17 + k) 22 (omega arith)) in
-    ap (λ b. has_bit w (17 + k) && (not b || (step % slice_index align_rungs ((17 + k) - 17) == 0))) on ∙ ap (λ j. has_bit w (17 + k) && (step % slice_index align_rungs j == 0)) number
+    ap (λ b. has_bit w (17 + k) && (not b || (step % slice_index align_rungs ((17 + k) - 17) == 0))) on ∙
+    ap (λ j. has_bit w (17 + k) && (step % slice_index align_rungs j == 0)) number
 
 -- a rung of bytes is one of all of them
 pub byte_bit : (i : ℕ) → is_byte_bit i ≡ true → bit_at ALL_BYTES i ≡ 1

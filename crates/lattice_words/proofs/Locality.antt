@@ -20,4 +20,5 @@ same_after_shift offset w v same i l on =
 -- after a step each bit depends on itself alone
 pub same_after_step : (step w v i : ℕ) → i < 64 → bit_at w i ≡ bit_at v i → bit_at (keep_align_of step w) i ≡ bit_at (keep_align_of step v) i
 same_after_step step w v i l same =
-    bit_at-keep_align_of step w i l ∙ ap (λ b. bit_of ((b == 1) && (not (is_align_bit i) || (step % slice_index align_rungs (i - 17) == 0)))) same ∙ sym (bit_at-keep_align_of step v i l)
+    bit_at-keep_align_of step w i l ∙ ap (λ b. bit_of ((b == 1) && (not (is_align_bit i) || (step % slice_index align_rungs (i - 17) == 0)))) same ∙
+    sym (bit_at-keep_align_of step v i l)

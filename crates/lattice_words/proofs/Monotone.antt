@@ -22,4 +22,5 @@ shift_of-within offset w v h = word_of-within (shifted_bit offset w) (shifted_bi
 
 pub keep_align_of-within : (step w v : ℕ) → IsWithin w v → IsWithin (keep_align_of step w) (keep_align_of step v)
 unfolding keep_align_of
-keep_align_of-within step w v h = word_of-within (kept_bit step w) (kept_bit step v) (λ i l is. let parts = and_parts _ _ is in and_from _ _ (has_bit-within w v i h l parts.0) parts.1)
+keep_align_of-within step w v h = word_of-within (kept_bit step w) (kept_bit step v) (λ i l is. let parts = and_parts _ _ is in
+    and_from _ _ (has_bit-within w v i h l parts.0) parts.1)

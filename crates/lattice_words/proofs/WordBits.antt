@@ -1,5 +1,6 @@
 -- Words by their bits: a word from a test, and a bit as a number.
-use Rattle.std.proofs.Common.{◌≡◌, ℕ, zero, suc, ◌+◌, ◌-◌, ◌^◌, ◌<◌, ◌≤◌, ◌⊎◌, ◌≢◌, Bool, true, false, cond, eqb, refl, ap, sym, ◌∙◌, inl, inr, arith, one-mul, zero-add, le_refl, lit<, eq-eqb, eqb-true, subst}
+use Rattle.std.proofs.Common.{◌≡◌, ℕ, zero, suc, ◌+◌, ◌-◌, ◌^◌, ◌<◌, ◌≤◌, ◌⊎◌, ◌≢◌, Bool, true, false, cond, eqb, refl, ap, sym, ◌∙◌, inl, inr, arith, one-mul}
+use Rattle.std.proofs.Common.{zero-add, le_refl, lit<, eq-eqb, eqb-true, subst}
 use Rattle.std.specs.Int.{bit_at}
 use Rattle.std.proofs.Math.Nat.{pow-suc}
 use Rattle.std.proofs.lemmas.Bool.{cases_lt}

@@ -1,4 +1,5 @@
-use Rattle.std.specs.Prelude.{◌≡◌, ℕ, ◌+◌, ◌-◌, ◌%◌, ◌<◌, ◌≤◌, ◌↔◌, ◌⊎◌, Bool, true, false, not, ◌&&◌, ◌||◌, ◌==◌, nat_le, if◌then◌else◌, List, [], ◌∷◌, slice_index, Option, Some, None, position}
+use Rattle.std.specs.Prelude.{◌≡◌, ℕ, ◌+◌, ◌-◌, ◌%◌, ◌<◌, ◌≤◌, ◌↔◌, ◌⊎◌, Bool, true, false, not, ◌&&◌, ◌||◌, ◌==◌, nat_le, if◌then◌else◌, List, [], ◌∷◌}
+use Rattle.std.specs.Prelude.{slice_index, Option, Some, None, position}
 use Rattle.std.specs.Int.{bit_at, ◌∣◌}
 use Rattle.lattice_words.specs.Words.{has_bit, word_of}
 use Rattle.lattice_words.specs.declared.value.TheConstants.{ALIGN_2, ALIGN_64, ALIGN_RUNGS, BYTES_1, BYTES_1024, BYTE_RUNGS}
@@ -57,7 +58,8 @@ pub record IsLowestByteRung (n k : ℕ) : Type 0 where
 
 -- after is the word w after a constant offset
 pub record IsShifted (offset w after : ℕ) : Type 0 where
-  pub rungs : (k : ℕ) → k < BYTE_RUNGS → (bit_at after (BYTES_1 + k) ≡ 1) ↔ ((j : ℕ) × IsLowestByteRung (slice_index byte_rungs k + offset) j × (bit_at w (BYTES_1 + j) ≡ 1))
+  pub rungs : (k : ℕ) → k < BYTE_RUNGS → (bit_at after (BYTES_1 + k) ≡ 1) ↔ ((j : ℕ) × IsLowestByteRung (slice_index byte_rungs k + offset) j ×
+      (bit_at w (BYTES_1 + j) ≡ 1))
   pub others : (i : ℕ) → i < 64 → (i < BYTES_1) ⊎ (BYTES_1024 < i) → bit_at after i ≡ bit_at w i
 
 -- after is the word w after a step

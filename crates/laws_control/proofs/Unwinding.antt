@@ -1,6 +1,6 @@
 -- No call unwinds whose fact is held, in an honest run. A call that unwinds is able to: an outer one promised
 -- nothing, and the fact of a body that unwinds is not held, since the call in it that unwound was able to.
-use Rattle.std.proofs.Common.{◌≡◌, ℕ, Bool, true, false, if◌then◌else◌, List, [], ◌∷◌, Option, None, Some, refl, sym, subst, ◌∙◌, map, ⊎_elim}
+use Rattle.std.proofs.Common.{◌≡◌, ℕ, Bool, true, false, if◌then◌else◌, List, [], ◌∷◌, Option, None, Some, refl, sym, subst, ◌∙◌, map, ⊎_elim, true≢false}
 use Rattle.std.specs.List.{AllByRecursion}
 use Rattle.std.proofs.lemmas.Bool.{and_parts, eqb-true}
 use Rattle.std.proofs.lemmas.List.Elements.{recursion_from_All, All-from_recursion}
@@ -39,9 +39,6 @@ use Rattle.facts.proofs.Rules.{resume_unwinds}
 use Rattle.facts.proofs.Unbuilt.{unbuilt}
 use Rattle.laws_control.specs.Soundness.{HoldsAt, HoldsAtPos, IsSound}
 
-clash : true ≡ false → ⊥
-clash e = cc
-
 module _ (m : Module) (held : Fact → Bool) (is : SupportsItself m held) where
   -- a spot that a run comes to is not dead: no kind of fact says so of any
   alive : (s : Spot) → held (dead_at s) ≡ false
@@ -74,7 +71,7 @@ module _ (m : Module) (held : Fact → Bool) (is : SupportsItself m held) where
       each_call (λ o. landing_by m picks o ≡ Passes rest → KeepsNounwind m held o → call_has m held NoUnwind o ≡ true)
       (λ called through kept. kept)
       (λ called normal unwind through kept.
-      ⊎_elim (λ all. absurd (clash (sym all ∙ lets_through (catches_all m unwind.0) picks rest unwind.0 through))) (λ has. has) kept)
+      ⊎_elim (λ all. absurd (true≢false (sym all ∙ lets_through (catches_all m unwind.0) picks rest unwind.0 through))) (λ has. has) kept)
 
   caller_able : (f : ℕ) (s : Spot) (made : Made) (body : Option ℕ) (picks rest : List ℕ) (instr : Instr) → instr_at m s ≡ Some instr → IsIn m f s →
       CallsBody m body instr.op → made ≡ At s → AbleAs made body → landing_by m picks instr.op ≡ Passes rest → held (nounwind_of f) ≡ false
@@ -84,7 +81,7 @@ module _ (m : Module) (held : Fact → Bool) (is : SupportsItself m held) where
       by false e = refl
       by true e =
           let kept = (is (nounwind_of f) e).1 s instr within at (alive s) in
-          absurd (clash (sym (kept_call picks rest instr.op calls.0 through kept) ∙ able_call s made body instr at calls at_s able))
+          absurd (true≢false (sym (kept_call picks rest instr.op calls.0 through kept) ∙ able_call s made body instr at calls at_s able))
 
   caller_in : (f : ℕ) (s : Spot) (made : Made) (body : Option ℕ) (picks rest : List ℕ) (found : Option Instr) → instr_at m s ≡ found → IsIn m f s →
       CallsBodyIn m body found → made ≡ At s → AbleAs made body → landing_in m picks found ≡ Passes rest → held (nounwind_of f) ≡ false
@@ -234,13 +231,13 @@ module _ (m : Module) (held : Fact → Bool) (is : SupportsItself m held) where
       a.body ≡ Some f → HoldsOf Nounwind a steps
   body_holds steps f able has a of =
       let all = All-from_recursion Able (events_of steps) able in
-      λ k d l by unwinds. clash (sym has ∙ subst (AbleAs a.call.made) of (all k d l a by unwinds))
+      λ k d l by unwinds. true≢false (sym has ∙ subst (AbleAs a.call.made) of (all k d l a by unwinds))
 
   built : (p : Pos) (bit : ℕ) → held (fact p bit) ≡ true → is_built p bit ≡ true
   built p bit has = (and_parts (is_built p bit) (has_bit_of m p bit) (is (fact p bit) has).0.1).0
 
   another : (p : Pos) (bit : ℕ) → is_built p bit ≡ false → held (fact p bit) ≡ true → ⊥
-  another p bit off has = clash (sym (built p bit has) ∙ off)
+  another p bit off has = true≢false (sym (built p bit has) ∙ off)
 
   fact_holds : (steps : List Done) (p : Pos) (bit : ℕ) → AllByRecursion Able (events_of steps) → held (fact p bit) ≡ true → HoldsAtPos p bit steps
   fact_holds steps (pos.Function f) bit able has =
@@ -252,7 +249,7 @@ module _ (m : Module) (held : Fact → Bool) (is : SupportsItself m held) where
   fact_holds steps (pos.Entry f at) bit able has = another (pos.Entry f at) bit refl has
   fact_holds steps (pos.Return f) bit able has = another (pos.Return f) bit refl has
   fact_holds steps (pos.Reach row k) bit able has = another (pos.Reach row k) bit refl has
-  fact_holds steps (pos.Effect k) bit able has = clash (is (fact (pos.Effect k) bit) has).0.0
+  fact_holds steps (pos.Effect k) bit able has = true≢false (is (fact (pos.Effect k) bit) has).0.0
 
   call_holds : (steps : List Done) (s : Spot) (instr : Instr) (f : ℕ) → AllByRecursion Able (events_of steps) →
       AllByRecursion (λ e. AllByRecursion (RunsItsCallee m) e.calls) (events_of steps) → instr_at m s ≡ Some instr → inner_callee m instr.op ≡ Some f →

@@ -12,7 +12,9 @@ use Rattle.ir_machine.specs.declared.choice.Byte.TheVariants as byte
 use Rattle.ir_machine.specs.declared.choice.Act.TheVariants as act
 use Rattle.ir_machine.specs.Memory.{OfSymbol, OfAlloca, Heap, Live}
 use Rattle.ir_machine.specs.Frames.{Enter, Read, Write, Capture, Return}
-use Rattle.machine_samples.specs.Build.{ty, value, function, global, block, typed, attributes, instr, segment, a_block, value_of, parameter, a_function, a_global, a_module, shape_of, mark, with_marks, choice, opened, by_call, expected, block_is, byte_is, value_is, outside, body, Sample}
+use Rattle.machine_samples.specs.Build.{ty, value, function, global, block, typed, attributes, instr, segment, a_block, value_of, parameter, a_function}
+use Rattle.machine_samples.specs.Build.{a_global, a_module, shape_of, mark, with_marks, choice, opened, by_call, expected, block_is, byte_is, value_is, outside}
+use Rattle.machine_samples.specs.Build.{body, Sample}
 
 -- define void @f(i8 %n) {
 --   %a = alloca i32

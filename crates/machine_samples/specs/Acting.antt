@@ -12,7 +12,9 @@ use Rattle.ir_machine.specs.declared.choice.Byte.TheVariants as byte
 use Rattle.ir_machine.specs.declared.choice.Act.TheVariants as act
 use Rattle.ir_machine.specs.Memory.{OfSymbol, OfAlloca, Heap, Live, Closed, Dead}
 use Rattle.ir_machine.specs.Frames.{Enter, Read, Write, HiddenRead, HiddenWrite, Free, Capture, Return}
-use Rattle.machine_samples.specs.Build.{ty, value, function, global, typed, attributes, a_call, instr, segment, a_block, value_of, parameter, a_function, a_global, a_module, shape_of, mark, with_marks, choice, opened, by_call, expected, block_is, byte_is, value_is, outside, body, Sample}
+use Rattle.machine_samples.specs.Build.{ty, value, function, global, typed, attributes, a_call, instr, segment, a_block, value_of, parameter, a_function}
+use Rattle.machine_samples.specs.Build.{a_global, a_module, shape_of, mark, with_marks, choice, opened, by_call, expected, block_is, byte_is, value_is, outside}
+use Rattle.machine_samples.specs.Build.{body, Sample}
 
 -- @a = global i64 0
 abbrev pub outside_reads_through_any_pointer_without_origins : Sample

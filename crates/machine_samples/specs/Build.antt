@@ -36,7 +36,8 @@ use Rattle.ir_machine.specs.declared.choice.Act.{Act}
 use Rattle.ir_machine.specs.declared.choice.Choice.{Choice}
 use Rattle.ir_machine.specs.Values.{is_same_value, are_same_marks}
 use Rattle.ir_machine.specs.Memory.{Kind, OfSymbol, OfAlloca, Heap, Shape, Life, Live, Closed, Dead}
-use Rattle.ir_machine.specs.Frames.{Body, Outside, Frame, State, What, Enter, Read, Write, HiddenRead, HiddenWrite, Free, Capture, Return, Unwind, Event, Active}
+use Rattle.ir_machine.specs.Frames.{Body, Outside, Frame, State, What, Enter, Read, Write, HiddenRead, HiddenWrite, Free, Capture, Return, Unwind, Event}
+use Rattle.ir_machine.specs.Frames.{Active}
 use Rattle.ir_machine.specs.Moves.{after, said, Gives, Undefined, Over, Plan}
 use Rattle.ir_machine.specs.Steps.{plan}
 use Rattle.ir_machine.specs.Runs.{lowest_call}

@@ -11,7 +11,9 @@ use Rattle.ir_machine.specs.declared.choice.Datum.TheVariants as datum
 use Rattle.ir_machine.specs.declared.choice.Act.TheVariants as act
 use Rattle.ir_machine.specs.Memory.{OfSymbol, OfAlloca, Heap, Live, Dead}
 use Rattle.ir_machine.specs.Frames.{Enter, Read, Write, Return, Unwind}
-use Rattle.machine_samples.specs.Build.{ty, value, function, global, block, typed, attributes, a_call, instr, segment, a_block, value_of, parameter, a_function, a_global, a_module, shape_of, mark, with_marks, choice, opened, by_call, expected, block_is, value_is, outside, body, Sample}
+use Rattle.machine_samples.specs.Build.{ty, value, function, global, block, typed, attributes, a_call, instr, segment, a_block, value_of, parameter, a_function}
+use Rattle.machine_samples.specs.Build.{a_global, a_module, shape_of, mark, with_marks, choice, opened, by_call, expected, block_is, value_is, outside, body}
+use Rattle.machine_samples.specs.Build.{Sample}
 
 -- define i32 @f() personality ptr @pers {
 --   %r = invoke i32 @x() to label %n unwind label %u

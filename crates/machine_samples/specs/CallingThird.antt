@@ -11,7 +11,8 @@ use Rattle.ir_machine.specs.declared.choice.Datum.TheVariants as datum
 use Rattle.ir_machine.specs.declared.choice.Act.TheVariants as act
 use Rattle.ir_machine.specs.Memory.{OfSymbol, OfAlloca, Live, Closed}
 use Rattle.ir_machine.specs.Frames.{Enter}
-use Rattle.machine_samples.specs.Build.{ty, value, function, block, typed, arm, attributes, a_call, instr, segment, a_block, value_of, parameter, a_function, a_module, shape_of, with_marks, choice, opened, by_call, expected, block_is, value_is, outside, body, Sample}
+use Rattle.machine_samples.specs.Build.{ty, value, function, block, typed, arm, attributes, a_call, instr, segment, a_block, value_of, parameter, a_function}
+use Rattle.machine_samples.specs.Build.{a_module, shape_of, with_marks, choice, opened, by_call, expected, block_is, value_is, outside, body, Sample}
 
 -- define void @f() {
 --   %p = alloca i32

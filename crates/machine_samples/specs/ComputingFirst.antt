@@ -14,7 +14,8 @@ use Rattle.ir_machine.specs.declared.choice.Datum.TheVariants as datum
 use Rattle.ir_machine.specs.declared.choice.Act.TheVariants as act
 use Rattle.ir_machine.specs.Memory.{OfSymbol, Live}
 use Rattle.ir_machine.specs.Frames.{Enter, Capture}
-use Rattle.machine_samples.specs.Build.{value, function, typed, attributes, instr, segment, a_block, value_of, parameter, a_function, a_module, shape_of, mark, with_marks, choice, opened, by_call, expected, block_is, value_is, outside, body, Sample}
+use Rattle.machine_samples.specs.Build.{value, function, typed, attributes, instr, segment, a_block, value_of, parameter, a_function, a_module, shape_of, mark}
+use Rattle.machine_samples.specs.Build.{with_marks, choice, opened, by_call, expected, block_is, value_is, outside, body, Sample}
 
 -- define void @f(i8 %a, i8 %b) {
 --   %r0 = add i8 %a, %b

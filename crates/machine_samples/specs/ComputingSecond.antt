@@ -12,7 +12,8 @@ use Rattle.ir_machine.specs.declared.choice.Datum.TheVariants as datum
 use Rattle.ir_machine.specs.declared.choice.Act.TheVariants as act
 use Rattle.ir_machine.specs.Memory.{OfSymbol, Live}
 use Rattle.ir_machine.specs.Frames.{Enter, Capture}
-use Rattle.machine_samples.specs.Build.{ty, value, function, global, typed, attributes, instr, segment, a_block, value_of, parameter, a_function, a_global, a_module, shape_of, mark, with_marks, choice, opened, by_call, expected, block_is, value_is, outside, body, Sample}
+use Rattle.machine_samples.specs.Build.{ty, value, function, global, typed, attributes, instr, segment, a_block, value_of, parameter, a_function, a_global}
+use Rattle.machine_samples.specs.Build.{a_module, shape_of, mark, with_marks, choice, opened, by_call, expected, block_is, value_is, outside, body, Sample}
 
 -- define void @f(ptr %p) {
 --   %a = ptrtoint ptr %p to i64

@@ -11,7 +11,9 @@ use Rattle.ir_machine.specs.declared.choice.Datum.TheVariants as datum
 use Rattle.ir_machine.specs.declared.choice.Act.TheVariants as act
 use Rattle.ir_machine.specs.Memory.{OfSymbol, Live}
 use Rattle.ir_machine.specs.Frames.{Enter, Return, Unwind}
-use Rattle.machine_samples.specs.Build.{ty, value, function, global, block, typed, arm, attributes, a_call, instr, segment, a_block, value_of, parameter, a_function, a_global, a_module, shape_of, mark, with_marks, choice, opened, by_call, expected, block_is, value_is, outside, body, Sample}
+use Rattle.machine_samples.specs.Build.{ty, value, function, global, block, typed, arm, attributes, a_call, instr, segment, a_block, value_of, parameter}
+use Rattle.machine_samples.specs.Build.{a_function, a_global, a_module, shape_of, mark, with_marks, choice, opened, by_call, expected, block_is, value_is}
+use Rattle.machine_samples.specs.Build.{outside, body, Sample}
 
 -- define void @f(i1 %c) {
 --   br i1 %c, label %a, label %b

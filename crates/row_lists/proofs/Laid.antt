@@ -1,45 +1,11 @@
 -- Where lists lie: one list gets another place, one list more is laid behind the others.
-use Rattle.std.proofs.Common.{◌≡◌, ◌≢◌, ℕ, zero, suc, ◌+◌, ◌<◌, ◌≤◌, ◌⊎◌, max, length, slice_get, slice_set, List, [], ◌∷◌, ◌++◌, replicate, Some, arith, refl, subst, sym, ap, ◌∙◌, inl, inr, length-append}
+use Rattle.std.proofs.Common.{◌≡◌, ◌≢◌, ℕ, ◌+◌, ◌≤◌, max, length, slice_get, slice_set, List, [], ◌∷◌, ◌++◌, replicate, Some, arith, refl, subst, sym, ◌∙◌, inl}
+use Rattle.std.proofs.Common.{inr, length-append}
 use Rattle.std.proofs.lemmas.Bool.{cases_lt}
 use Rattle.std.proofs.lemmas.List.{length-replicate}
+use Rattle.shelf.proofs.Shelf.{get_push, get_set, get_replicate}
 use Rattle.row_lists.specs.declared.layout.Row.{Row}
 use Rattle.row_lists.specs.Lists.{IsWithin, AreApart, IsLaid, AreEmpty, IsGrown}
-
-pub some_is : {A : Type 0} {x y : A} → Some x ≡ Some y → x ≡ y
-some_is e = cc
-
--- what stands at a place of a list of which one thing was replaced
-pub got_set : {X : Type 0} (xs : List X) (i : ℕ) (new : X) (k : ℕ) (x : X) → slice_get (slice_set xs i new) k ≡ Some x
-    → ((k ≡ i) × (new ≡ x)) ⊎ ((k ≢ i) × (slice_get xs k ≡ Some x))
-got_set [] i new k x e = absurd (cc)
-got_set (y ∷ ys) zero new zero x e = inl (refl, some_is e)
-got_set (y ∷ ys) zero new (suc k) x e = inr ((λ h. omega (arith, h)), e)
-got_set (y ∷ ys) (suc i) new zero x e = inr ((λ h. omega (arith, h)), e)
-got_set (y ∷ ys) (suc i) new (suc k) x e = elim (got_set ys i new k x e) [
-  | inl same ↦ inl (ap suc same.0, same.1)
-  | inr other ↦ inr ((λ h. other.0 (omega (arith, h))), other.1)
-]
-
--- what stands at a place of a list with one thing more
-pub got_push : {X : Type 0} (xs : List X) (new : X) (k : ℕ) (x : X) → slice_get (xs ++ new ∷ []) k ≡ Some x
-    → ((k ≡ length xs) × (new ≡ x)) ⊎ (slice_get xs k ≡ Some x)
-got_push [] new zero x e = inl (refl, some_is e)
-got_push [] new (suc k) x e = absurd (cc)
-got_push (y ∷ ys) new zero x e = inr e
-got_push (y ∷ ys) new (suc k) x e = elim (got_push ys new k x e) [
-  | inl same ↦ inl (ap suc same.0, same.1)
-  | inr other ↦ inr other
-]
-
-pub got_replicate : {X : Type 0} (n : ℕ) (y : X) (k : ℕ) (x : X) → slice_get (replicate n y) k ≡ Some x → y ≡ x
-got_replicate zero y k x e = absurd (cc)
-got_replicate (suc n) y zero x e = some_is e
-got_replicate (suc n) y (suc k) x e = got_replicate n y k x e
-
-pub set_there : {X : Type 0} (xs : List X) (i : ℕ) (x : X) → i < length xs → slice_get (slice_set xs i x) i ≡ Some x
-set_there [] i x l = absurd (omega arith)
-set_there (y ∷ ys) zero x l = refl
-set_there (y ∷ ys) (suc i) x l = set_there ys i x (omega arith)
 
 pub apart_turned : (a b : Row) → AreApart a b → AreApart b a
 apart_turned a b h = λ p q. elim (h q p) [ inl x ↦ inr x | inr x ↦ inl x ]
@@ -48,16 +14,16 @@ apart_turned a b h = λ p q. elim (h q p) [ inl x ↦ inr x | inr x ↦ inl x ]
 pub laid_set : (end next : ℕ) (rows : List Row) (i : ℕ) (new : Row) → IsLaid end rows → end ≤ next → IsWithin next new
     → ((k : ℕ) (row : Row) → k ≢ i → slice_get rows k ≡ Some row → AreApart new row) → IsLaid next (slice_set rows i new)
 laid_set end next rows i new laid more within others = record {
-  within = λ k row at. elim (got_set rows i new k row at) [
+  within = λ k row at. elim (get_set rows i new k row at) [
     | inl same ↦ subst (IsWithin next) same.1 within
     | inr other ↦ let old = laid.within k row other.1 in (old.0, omega (arith, old.1, more))
   ];
-  apart = λ j k a b ne at_j at_k. elim (got_set rows i new j a at_j) [
-    | inl first ↦ elim (got_set rows i new k b at_k) [
+  apart = λ j k a b ne at_j at_k. elim (get_set rows i new j a at_j) [
+    | inl first ↦ elim (get_set rows i new k b at_k) [
       | inl second ↦ absurd (ne (first.0 ∙ sym second.0))
       | inr second ↦ subst (λ (x : Row). AreApart x b) first.1 (others k b second.0 second.1)
     ]
-    | inr first ↦ elim (got_set rows i new k b at_k) [
+    | inr first ↦ elim (get_set rows i new k b at_k) [
       | inl second ↦ subst (λ (x : Row). AreApart a x) second.1 (apart_turned new a (others j a first.0 first.1))
       | inr second ↦ laid.apart j k a b ne first.1 second.1
     ]
@@ -115,18 +81,18 @@ laid_push end next rows new laid from fits long =
     let behind : (k : ℕ) (row : Row) → slice_get rows k ≡ Some row → AreApart row new =
     λ k row at p q. inl (omega (arith, (laid.within k row at).1, from)) in
     record {
-      within = λ k row at. elim (got_push rows new k row at) [
-        | inl last ↦ subst (IsWithin next) last.1 (fits, omega (arith, from, long))
-        | inr other ↦ let old = laid.within k row other in (old.0, omega (arith, old.1, long))
+      within = λ k row at. elim (get_push rows new row k at) [
+        | inl other ↦ let old = laid.within k row other in (old.0, omega (arith, old.1, long))
+        | inr last ↦ subst (IsWithin next) last.1 (fits, omega (arith, from, long))
       ];
-      apart = λ j k a b ne at_j at_k. elim (got_push rows new j a at_j) [
-        | inl first ↦ elim (got_push rows new k b at_k) [
-          | inl second ↦ absurd (ne (first.0 ∙ sym second.0))
-          | inr second ↦ subst (λ (x : Row). AreApart x b) first.1 (apart_turned b new (behind k b second))
+      apart = λ j k a b ne at_j at_k. elim (get_push rows new a j at_j) [
+        | inl first ↦ elim (get_push rows new b k at_k) [
+          | inl second ↦ laid.apart j k a b ne first second
+          | inr second ↦ subst (λ (x : Row). AreApart a x) second.1 (behind j a first)
         ]
-        | inr first ↦ elim (got_push rows new k b at_k) [
-          | inl second ↦ subst (λ (x : Row). AreApart a x) second.1 (behind j a first)
-          | inr second ↦ laid.apart j k a b ne first second
+        | inr first ↦ elim (get_push rows new b k at_k) [
+          | inl second ↦ subst (λ (x : Row). AreApart x b) first.1 (apart_turned b new (behind k b second))
+          | inr second ↦ absurd (ne (first.0 ∙ sym second.0))
         ]
       ];
     }
@@ -134,23 +100,24 @@ laid_push end next rows new laid from fits long =
 pub empty_push : (count : ℕ) (rows : List Row) (new : Row) → AreEmpty count rows → new.len ≡ 0 → AreEmpty (count + 1) (rows ++ new ∷ [])
 empty_push count rows new empty none = record {
   count_is = omega (arith, length-append rows (new ∷ []), empty.count_is);
-  none = λ k row at. elim (got_push rows new k row at) [
-    | inl last ↦ subst (λ (x : Row). x.len ≡ 0) last.1 none
-    | inr other ↦ empty.none k row other
+  none = λ k row at. elim (get_push rows new row k at) [
+    | inl other ↦ empty.none k row other
+    | inr last ↦ subst (λ (x : Row). x.len ≡ 0) last.1 none
   ];
 }
 
 -- lists without room, in a run without entries
 pub laid_replicate : (count : ℕ) (row : Row) → row.from ≡ 0 → row.len ≡ 0 → row.room ≡ 0 → IsLaid 0 (replicate count row)
 laid_replicate count row from len room =
-    let is : (k : ℕ) (x : Row) → slice_get (replicate count row) k ≡ Some x → row ≡ x = got_replicate count row in
+    let is : (k : ℕ) (x : Row) → slice_get (replicate count row) k ≡ Some x → row ≡ x = get_replicate count row in
     record {
       within = λ k x at. subst (IsWithin 0) (is k x at) (omega (arith, len, room), omega (arith, from, room));
-      apart = λ j k a b ne at_j at_k. subst (λ (x : Row). AreApart x b) (is j a at_j) (subst (λ (x : Row). AreApart row x) (is k b at_k) (λ p q. absurd (omega (arith, p, room))));
+      apart = λ j k a b ne at_j at_k. subst (λ (x : Row). AreApart x b) (is j a at_j)
+          (subst (λ (x : Row). AreApart row x) (is k b at_k) (λ p q. absurd (omega (arith, p, room))));
     }
 
 pub empty_replicate : (count : ℕ) (row : Row) (rows : List Row) → rows ≡ replicate count row → row.len ≡ 0 → AreEmpty count rows
 empty_replicate count row rows is none = subst (AreEmpty count) (sym is) (record {
   count_is = length-replicate count row;
-  none = λ k x at. subst (λ (r : Row). r.len ≡ 0) (got_replicate count row k x at) none;
+  none = λ k x at. subst (λ (r : Row). r.len ≡ 0) (get_replicate count row k x at) none;
 })

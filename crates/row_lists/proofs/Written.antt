@@ -1,14 +1,15 @@
 -- Entries that are written over a run from a place on: the list that lies there becomes them, and no other changes.
-use Rattle.std.proofs.Common.{◌≡◌, ℕ, zero, suc, ◌+◌, ◌≤◌, length, map, slice_get, slice_set, take, drop, List, [], ◌∷◌, ◌++◌, Some, arith, refl, sym, ap, ◌∙◌, inl, inr, length-append, length-drop, append_assoc, length-take-le, take_at}
+use Rattle.std.proofs.Common.{◌≡◌, ℕ, ◌+◌, ◌≤◌, length, map, slice_get, slice_set, take, drop, List, [], ◌∷◌, ◌++◌, Some, arith, refl, sym, ap, ◌∙◌, inl, inr}
+use Rattle.std.proofs.Common.{length-append, length-drop, append_assoc, length-take-le, take_at}
 use Rattle.std.proofs.lemmas.Bool.{cases_lt}
 use Rattle.std.proofs.lemmas.List.{drop-drop, drop_at, take-append-drop}
 use Rattle.std.proofs.lemmas.Slice.{drop-append-drop}
 use Rattle.attr_ids.specs.declared.ids.PosId.{PosId}
+use Rattle.shelf.proofs.Shelf.{set_same}
 use Rattle.row_lists.specs.declared.layout.Row.{Row}
 use Rattle.row_lists.specs.EdgeRow.{with_bits}
 use Rattle.row_lists.specs.Inside.{edges_at}
 use Rattle.row_lists.specs.Lists.{listed, AreApart, IsLaid}
-use Rattle.row_lists.proofs.Laid.{some_is}
 use Rattle.row_lists.proofs.Listing.{listed_more, map_set}
 
 -- the run with these entries over it from place f on
@@ -50,7 +51,8 @@ module _ {X : Type 0} (xs ws : List X) (f : ℕ) (fits : f + length ws ≤ lengt
   over_none : length ws ≤ 0 → over xs f ws ≡ xs
   over_none l = ap (over xs f) (no_entries ws l) ∙ take-append-drop f xs
 
-  over_apart : (row other : Row) → row.from ≡ f → row.len ≡ length ws → row.len ≤ row.room → other.len ≤ other.room → AreApart row other → listed (over xs f ws) other ≡ listed xs other
+  over_apart : (row other : Row) → row.from ≡ f → row.len ≡ length ws → row.len ≤ row.room → other.len ≤ other.room → AreApart row other →
+      listed (over xs f ws) other ≡ listed xs other
   over_apart row other from len few fits apart = elim (cases_lt 0 other.room) [
     | inr none ↦
         let no : other.len ≡ 0 = omega (arith, fits, none) in
@@ -65,15 +67,12 @@ module _ {X : Type 0} (xs ws : List X) (f : ℕ) (fits : f + length ws ≤ lengt
   ]
 
 -- what `with_items_from` makes of a run, where the entries fit
-pub items_over : {X : Type 0} (xs ws : List X) (f n : ℕ) → f + length ws ≤ length xs → n ≡ length xs → take n (over xs f ws ++ drop (length (over xs f ws)) xs) ≡ over xs f ws
+pub items_over : {X : Type 0} (xs ws : List X) (f n : ℕ) → f + length ws ≤ length xs → n ≡ length xs →
+    take n (over xs f ws ++ drop (length (over xs f ws)) xs) ≡ over xs f ws
 items_over xs ws f n fits e = take_at (over xs f ws) (drop (length (over xs f ws)) xs) n (over_long xs ws f fits ∙ sym e)
 
-set_same : {X : Type 0} (xs : List X) (i : ℕ) (x : X) → slice_get xs i ≡ Some x → slice_set xs i x ≡ xs
-set_same [] i x at = refl
-set_same (y ∷ ys) zero x at = let e = some_is at in λ j. sym e j ∷ ys
-set_same (y ∷ ys) (suc i) x at = let e = set_same ys i x at in λ j. y ∷ e j
-
-pub edges_written : (ps : List PosId) (bs ws : List ℕ) (rows : List Row) (i : ℕ) (row : Row) → IsLaid (length ps) rows → length bs ≡ length ps → slice_get rows i ≡ Some row → row.len ≡ length ws
+pub edges_written : (ps : List PosId) (bs ws : List ℕ) (rows : List Row) (i : ℕ) (row : Row) → IsLaid (length ps) rows → length bs ≡ length ps →
+    slice_get rows i ≡ Some row → row.len ≡ length ws
     → map (edges_at ps (over bs row.from ws)) rows ≡ slice_set (map (edges_at ps bs) rows) i (with_bits (edges_at ps bs row) ws)
 edges_written ps bs ws rows i row laid long at len =
     let within = laid.within i row at in

@@ -145,7 +145,8 @@ impl EdgeRows {
         requires { at < length self.old }
         ensures* writes_back { sem 𝓛 (LendsBits self.entry at result) }
         ensures value { result.now ≡ (row_at self.old at).bits }
-        ensures same_len { (ws : List ℕ) → length ws ≡ length (row_at self.old at).bits → refill (length (row_at self.old at).bits) (row_at self.old at).bits ws ≡ ws }
+        ensures same_len { (ws : List ℕ) → length ws ≡ length (row_at self.old at).bits →
+            refill (length (row_at self.old at).bits) (row_at self.old at).bits ws ≡ ws }
     {
         let row = self.rows[at];
         let from = row.from as usize;

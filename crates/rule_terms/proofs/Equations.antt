@@ -28,7 +28,8 @@ module _ (words : ℕ → ℕ) where
   pub meaning-or : (left right : NewTerm) → meaning words (roll-NewTerm (Or left right)) ≡ bit_or (meaning words left) (meaning words right)
   meaning-or left right = fold-roll-NewTerm ℕ (layer_meaning words) (Or left right)
 
-  pub meaning-unless : (input : PosId) (bit : ℕ) (then' : NewTerm) → meaning words (roll-NewTerm (Unless input bit then')) ≡ cond (eqb (bit_at (words input.0) bit) 1) all_ones (meaning words then')
+  pub meaning-unless : (input : PosId) (bit : ℕ) (then' : NewTerm) →
+      meaning words (roll-NewTerm (Unless input bit then')) ≡ cond (eqb (bit_at (words input.0) bit) 1) all_ones (meaning words then')
   meaning-unless input bit then' = fold-roll-NewTerm ℕ (layer_meaning words) (Unless input bit then')
 
   pub meaning-shift : (bytes : ℕ) (of : NewTerm) → meaning words (roll-NewTerm (Shift bytes of)) ≡ shift_of bytes (meaning words of)
@@ -54,9 +55,12 @@ module _ (count : ℕ) where
   pub is_over-or : (left right : NewTerm) → is_over count left ≡ true → is_over count right ≡ true → is_over count (roll-NewTerm (Or left right)) ≡ true
   is_over-or left right h k = fold-roll-NewTerm Bool (is_layer_over count) (Or left right) ∙ and_from (is_over count left) (is_over count right) h k
 
-  pub is_over-unless : (input : PosId) (bit : ℕ) (then' : NewTerm) → input.0 < count → bit < 64 → is_over count then' ≡ true → is_over count (roll-NewTerm (Unless input bit then')) ≡ true
+  pub is_over-unless : (input : PosId) (bit : ℕ) (then' : NewTerm) → input.0 < count → bit < 64 → is_over count then' ≡ true →
+      is_over count (roll-NewTerm (Unless input bit then')) ≡ true
   is_over-unless input bit then' l small h =
-      fold-roll-NewTerm Bool (is_layer_over count) (Unless input bit then') ∙ and_from (nat_lt input.0 count && nat_lt bit 64) (is_over count then') (and_from (nat_lt input.0 count) (nat_lt bit 64) (lt-ltb input.0 count l) (lt-ltb bit 64 small)) h
+      fold-roll-NewTerm Bool (is_layer_over count) (Unless input bit then') ∙
+      and_from (nat_lt input.0 count && nat_lt bit 64) (is_over count then') (and_from (nat_lt input.0 count) (nat_lt bit 64) (lt-ltb input.0 count l)
+      (lt-ltb bit 64 small)) h
 
   pub is_over-shift : (bytes : ℕ) (of : NewTerm) → is_over count of ≡ true → is_over count (roll-NewTerm (Shift bytes of)) ≡ true
   is_over-shift bytes of h = fold-roll-NewTerm Bool (is_layer_over count) (Shift bytes of) ∙ h
@@ -65,4 +69,5 @@ module _ (count : ℕ) where
   is_over-keep_align step of h = fold-roll-NewTerm Bool (is_layer_over count) (KeepAlign step of) ∙ h
 
   pub is_over-spread : (bit to : ℕ) (of : NewTerm) → bit < 64 → is_over count of ≡ true → is_over count (roll-NewTerm (Spread bit to of)) ≡ true
-  is_over-spread bit to of small h = fold-roll-NewTerm Bool (is_layer_over count) (Spread bit to of) ∙ and_from (nat_lt bit 64) (is_over count of) (lt-ltb bit 64 small) h
+  is_over-spread bit to of small h = fold-roll-NewTerm Bool (is_layer_over count) (Spread bit to of) ∙
+      and_from (nat_lt bit 64) (is_over count of) (lt-ltb bit 64 small) h

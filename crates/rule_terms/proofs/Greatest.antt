@@ -1,20 +1,17 @@
 -- The greatest list of words that supports itself: there is no other, and cuts from the masks lead to it.
-use Rattle.std.proofs.Common.{◌≡◌, ℕ, zero, suc, ◌^◌, ◌<◌, List, [], ◌∷◌, length, length-set, slice_index, All, bit_and, refl, ap, sym, ◌∙◌, arith, inl, inr, get_or-set_same, get_or-set_other}
+use Rattle.std.proofs.Common.{◌≡◌, ℕ, zero, suc, ◌^◌, ◌<◌, List, [], ◌∷◌, length, length-set, slice_index, All, bit_and, refl, ap, sym, ◌∙◌, arith, inl, inr}
+use Rattle.std.proofs.Common.{get_or-set_same, get_or-set_other}
 use Rattle.std.specs.Int.{bit_at}
 use Rattle.std.proofs.lemmas.Bool.{cases_eq}
 use Rattle.std.proofs.lemmas.List.Elements.{All-get_or}
 use Rattle.std.proofs.lemmas.Nat.Bits.{bit_at_and, same_from_bits_below}
+use Rattle.lattice_words.proofs.WordBits.{within_refl, within_trans}
 use Rattle.lattice_words.specs.Words.{IsWithin}
 use Rattle.rule_terms.specs.System.{System, IsSystem, value_in}
 use Rattle.rule_terms.specs.Greatest.{AreWithin, Supports, IsSelfSupporting, IsGreatest, IsAbove, IsCut, IsReached, from_masks, then_cut}
 use Rattle.rule_terms.proofs.Monotone.{value_in-within}
 
 -- ---- words
-pub within_refl : (a : ℕ) → IsWithin a a
-within_refl a i l = omega arith
-
-pub within_trans : (a b c : ℕ) → IsWithin a b → IsWithin b c → IsWithin a c
-within_trans a b c h k i l = omega (arith, h i l, k i l)
 
 -- within both is within what both have
 pub within_and : (a b c : ℕ) → IsWithin a b → IsWithin a c → IsWithin a (bit_and b c)
@@ -45,7 +42,8 @@ same_list (x ∷ xs) (y ∷ ys) long same =
 
 pub same_words : (a b : List ℕ) → length a ≡ length b → All (λ w. w < 2 ^ 64) a → All (λ w. w < 2 ^ 64) b → AreWithin a b → AreWithin b a → a ≡ b
 same_words a b long small low h k = same_list a b long (λ p l.
-    same_word (slice_index a p) (slice_index b p) (All-get_or (λ w. w < 2 ^ 64) a p 0 l small) (All-get_or (λ w. w < 2 ^ 64) b p 0 (omega arith) low) (h p) (k p))
+    same_word (slice_index a p) (slice_index b p) (All-get_or (λ w. w < 2 ^ 64) a p 0 l small) (All-get_or (λ w. w < 2 ^ 64) b p 0 (omega arith) low) (h p)
+    (k p))
 
 -- ---- the greatest list
 module _ (s : System) where
@@ -68,7 +66,8 @@ module _ (s : System) where
       | inl here ↦ rw (cut.written, here, get_or-set_same old cut.place cut.word 0 (omega (arith, cut.is_position)))
           (within_trans (slice_index others cut.place) (bit_and (slice_index old cut.place) (value_in s cut.place old)) cut.word
           (within_and (slice_index others cut.place) (slice_index old cut.place) (value_in s cut.place old) (above others is cut.place)
-          (within_trans (slice_index others cut.place) (value_in s cut.place others) (value_in s cut.place old) (is.supported cut.place cut.is_position) (value_in-within s is_system cut.place others old (above others is))))
+          (within_trans (slice_index others cut.place) (value_in s cut.place others) (value_in s cut.place old) (is.supported cut.place cut.is_position)
+          (value_in-within s is_system cut.place others old (above others is))))
           cut.keeps)
       | inr other ↦ rw (cut.written, get_or-set_other old cut.place q cut.word 0 other) (above others is q)
     ]
@@ -93,4 +92,10 @@ module _ (s : System) where
     -- a run of cuts that came to an end is at the greatest list
     pub reached_greatest : (words : List ℕ) → IsReached s words → All (λ w. w < 2 ^ 64) words → Supports s words → IsGreatest s words
     reached_greatest words run small supported =
-        greatest_from_above words (record { long = reached_long words run; fits = small; within = reached_within words run; supported = supported }) (reached_above words run)
+        greatest_from_above words (record {
+          long = reached_long words run;
+          fits = small;
+          within = reached_within words run;
+          supported =
+              supported;
+        }) (reached_above words run)

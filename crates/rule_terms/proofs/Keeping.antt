@@ -1,14 +1,17 @@
 -- What a system keeps, and what it shows, as terms are met in.
-use Rattle.std.proofs.Common.{◌≡◌, ◌≢◌, ◌⊎◌, Bool, false, cond, ℕ, zero, suc, ◌<◌, true, List, [], ◌∷◌, ◌++◌, length, map, get_or, set, slice_get, slice_index, bit_or, Some, Result, Ok, Err, OnOk, OnErr, option_map, refl, ap, sym, ◌∙◌, subst, arith, All, inl, inr, append-nil, replicate, ◌^◌}
+use Rattle.std.proofs.Common.{◌≡◌, ◌⊎◌, Bool, false, cond, ℕ, zero, suc, ◌<◌, true, List, [], ◌∷◌, ◌++◌, length, map, get_or, set, slice_get, slice_index}
+use Rattle.std.proofs.Common.{bit_or, Some, Result, Ok, Err, OnOk, OnErr, option_map, refl, ap, sym, ◌∙◌, subst, arith, All, inl, inr, append-nil, replicate}
+use Rattle.std.proofs.Common.{◌^◌}
 use Rattle.std.specs.List.{flat_map, fold}
 use Rattle.std.proofs.lemmas.List.{length-map, length-replicate, map-append, map-set}
 use Rattle.std.proofs.lemmas.List.Concat.{flat_map-append}
 use Rattle.std.proofs.lemmas.List.Sums.{fold-append, fold_push}
 use Rattle.std.proofs.lemmas.List.Elements.{All-map, All-nil, All-push}
-use Rattle.std.proofs.lemmas.Option.{slice_get-get_or, slice_get_read, slice_get-map, get_or_from_slice_get, same_Some, none-some}
+use Rattle.std.proofs.lemmas.Option.{slice_get-get_or, slice_get_read, slice_get-map, get_or_from_slice_get, none-some}
 use Rattle.attr_ids.specs.declared.ids.PosId.{PosId}
 use Rattle.lattice_words.specs.declared.word.TheConstants.{FACT_BITS}
 use Rattle.smallvec.specs.SmallVec.{SmallVec}
+use Rattle.shelf.proofs.Shelf.{get_push, get_set, get_replicate, set_same, map_agree, map_all}
 use Rattle.row_lists.specs.EdgeRow.{EdgeRow, empty_row, row_at}
 use Rattle.rule_terms.specs.declared.system.System.TheInside.{Inside}
 use Rattle.rule_terms.specs.declared.term.NewTerm.{NewTerm}
@@ -22,17 +25,18 @@ use Rattle.rule_terms.specs.Kept.{Rule, met_terms, term_at, IsRule, AreRules, Ha
 use Rattle.rule_terms.specs.Meeting.{Met}
 use Rattle.rule_terms.specs.Inside.{shown, rules_in, IsKept}
 use Rattle.rule_terms.specs.System.{System, IsSystem, terms_at, with_masks, with_term}
-use Rattle.rule_terms.proofs.Marked.{slice_get-push, apart_from_marks}
+use Rattle.rule_terms.proofs.Marked.{apart_from_marks}
 use Rattle.rule_terms.proofs.Slotted.{nth-grown, is_numbered-more, named-grown}
 use Rattle.rule_terms.proofs.Putting.{grown_length, grown_trans}
-use Rattle.rule_terms.proofs.Rows.{rule_found, length-rules, rules-set, empty_rule, rules-empty, replicate-at, empty_row_at}
+use Rattle.rule_terms.proofs.Rows.{rule_found, length-rules, rules-set, empty_rule, rules-empty, empty_row_at}
 
 abbrev pub no_places : SmallVec TermId
 no_places = record { items = []; capacity = 0 }
 
 -- there is a rule for each position
 pub rules-long : (a : Inside) → IsKept a → length (rules_in a) ≡ length a.masks
-rules-long a kept = length-rules a.rows (map (λ (places : SmallVec TermId). places.items) a.places.items) (kept.rows ∙ sym kept.places ∙ sym (length-map a.places.items (λ (places : SmallVec TermId). places.items))) ∙ kept.rows
+rules-long a kept = length-rules a.rows (map (λ (places : SmallVec TermId). places.items) a.places.items) (kept.rows ∙ sym kept.places ∙
+    sym (length-map a.places.items (λ (places : SmallVec TermId). places.items))) ∙ kept.rows
 
 pub kept_system : (a : Inside) → IsKept a → IsSystem (shown a)
 kept_system a kept = record {
@@ -43,48 +47,39 @@ kept_system a kept = record {
       (λ k d l. (kept.rules k (get_or (rules_in a) k d) (slice_get-get_or (rules_in a) k d l)).over);
 }
 
--- two functions that agree on a list's elements give the same list
-map_agree : {A B : Type 0} (f g : A → B) (xs : List A) → ((k : ℕ) (x : A) → slice_get xs k ≡ Some x → f x ≡ g x) → map f xs ≡ map g xs
-map_agree f g [] same = refl
-map_agree f g (x ∷ xs) same = rw (same zero x refl, map_agree f g xs (λ k y e. same (suc k) y e)) refl
-
--- what a list has at a place after a write
-slice_get-set : {A : Type 0} (xs : List A) (i : ℕ) (y : A) (k : ℕ) (x : A) → slice_get (set xs i y) k ≡ Some x → ((k ≡ i) × (x ≡ y)) ⊎ ((k ≢ i) × (slice_get xs k ≡ Some x))
-slice_get-set [] i y k x e = cc
-slice_get-set (z ∷ zs) zero y zero x e = inl (refl, sym (same_Some y x e))
-slice_get-set (z ∷ zs) zero y (suc k) x e = inr (omega arith, e)
-slice_get-set (z ∷ zs) (suc i) y zero x e = inr (omega arith, e)
-slice_get-set (z ∷ zs) (suc i) y (suc k) x e = elim (slice_get-set zs i y k x e) [
-  | inl here ↦ inl (ap suc here.0, here.1)
-  | inr there ↦ inr (omega (arith, there.0), there.1)
-]
-
 module _ (slots more : List Term) (grown : IsGrown slots more) where
   same_slot : (place : ℕ) → place < length slots → nth (slot_terms more) place ≡ nth (slot_terms slots) place
   same_slot place l = ap (λ s. nth (slot_terms s) place) grown.1 ∙ nth-grown slots grown.0 place l
 
-  readable_stays : (inputs wider : List PosId) → IsGrown inputs wider → (place : ℕ) → IsReadable slots (length inputs) place → IsReadable more (length wider) place
+  readable_stays : (inputs wider : List PosId) → IsGrown inputs wider → (place : ℕ) → IsReadable slots (length inputs) place →
+      IsReadable more (length wider) place
   readable_stays inputs wider widened place is = record {
     within = omega (arith, is.within, grown_length slots more grown);
-    numbered = rw (same_slot place is.within) (is_numbered-more (length inputs) (length wider) (grown_length inputs wider widened) (nth (slot_terms slots) place) is.numbered);
+    numbered = rw (same_slot place is.within) (is_numbered-more (length inputs) (length wider) (grown_length inputs wider widened)
+        (nth (slot_terms slots) place) is.numbered);
   }
 
-  term_stays : (inputs wider : List PosId) → IsGrown inputs wider → (place : TermId) → IsReadable slots (length inputs) place.0 → term_at more wider place ≡ term_at slots inputs place
+  term_stays : (inputs wider : List PosId) → IsGrown inputs wider → (place : TermId) → IsReadable slots (length inputs) place.0 →
+      term_at more wider place ≡ term_at slots inputs place
   term_stays inputs wider widened place is =
       ap (named wider) (same_slot place.0 is.within)
       ∙ ap (λ l. named l (nth (slot_terms slots) place.0)) widened.1
       ∙ named-grown inputs widened.0 (nth (slot_terms slots) place.0) is.numbered
 
   -- the terms at places that stay
-  terms_stay : (count : ℕ) (rule : Rule) → IsRule count slots rule → (wider : List PosId) → IsGrown rule.inputs wider → map (term_at more wider) rule.places ≡ map (term_at slots rule.inputs) rule.places
-  terms_stay count rule is wider widened = map_agree (term_at more wider) (term_at slots rule.inputs) rule.places (λ k place e. term_stays rule.inputs wider widened place (is.places k place e))
+  terms_stay : (count : ℕ) (rule : Rule) → IsRule count slots rule → (wider : List PosId) → IsGrown rule.inputs wider →
+      map (term_at more wider) rule.places ≡ map (term_at slots rule.inputs) rule.places
+  terms_stay count rule is wider widened =
+      map_agree (term_at more wider) (term_at slots rule.inputs) rule.places (λ k place e. term_stays rule.inputs wider widened place (is.places k place e))
 
   -- what the terms at places read stays
   places_read-stays : (i mask start : ℕ) (places : List TermId) → ((k : ℕ) (place : TermId) → slice_get places k ≡ Some place → place.0 < length slots) →
-      fold (λ bits place. bit_or bits (numbered_reads i (nth (slot_terms more) place.0) mask)) start places ≡ fold (λ bits place. bit_or bits (numbered_reads i (nth (slot_terms slots) place.0) mask)) start places
+      fold (λ bits place. bit_or bits (numbered_reads i (nth (slot_terms more) place.0) mask)) start places ≡ fold
+      (λ bits place. bit_or bits (numbered_reads i (nth (slot_terms slots) place.0) mask)) start places
   places_read-stays i mask start [] within = refl
   places_read-stays i mask start (place ∷ places) within =
-      ap (λ t. fold (λ bits place. bit_or bits (numbered_reads i (nth (slot_terms more) place.0) mask)) (bit_or start (numbered_reads i t mask)) places) (same_slot place.0 (within zero place refl))
+      ap (λ t. fold (λ bits place. bit_or bits (numbered_reads i (nth (slot_terms more) place.0) mask)) (bit_or start (numbered_reads i t mask)) places)
+      (same_slot place.0 (within zero place refl))
       ∙ places_read-stays i mask (bit_or start (numbered_reads i (nth (slot_terms slots) place.0) mask)) places (λ k other e. within (suc k) other e)
 
 -- names are only added behind
@@ -96,10 +91,12 @@ with_name-grown names p = by_case (has_name names p) where
 
 with_names-grown : (names more : List PosId) → IsGrown names (with_names names more)
 with_names-grown names [] = ([], sym (append-nil names))
-with_names-grown names (p ∷ ps) = grown_trans names (with_name names p) (with_names (with_name names p) ps) (with_name-grown names p) (with_names-grown (with_name names p) ps)
+with_names-grown names (p ∷ ps) =
+    grown_trans names (with_name names p) (with_names (with_name names p) ps) (with_name-grown names p) (with_names-grown (with_name names p) ps)
 
 -- the inputs that one more term adds
-more_inputs : (inputs wider : List PosId) (terms : List NewTerm) (term : NewTerm) → inputs ≡ with_names [] (flat_map names_of terms) → wider ≡ with_names inputs (names_of term) →
+more_inputs : (inputs wider : List PosId) (terms : List NewTerm) (term : NewTerm) → inputs ≡ with_names [] (flat_map names_of terms) →
+    wider ≡ with_names inputs (names_of term) →
     wider ≡ with_names [] (flat_map names_of (terms ++ term ∷ []))
 more_inputs inputs wider terms term is e =
     e ∙ ap (λ l. with_names l (names_of term)) is
@@ -124,7 +121,8 @@ module _ (count : ℕ) (slots more : List Term) (grown : IsGrown slots more) whe
       }
 
   -- a rule that a term was met into shows it behind the others
-  pub met_one : (mask : ℕ) (old new : Rule) (term : NewTerm) → Met more mask old new term → IsRule count slots old → AreApart new.inputs count → is_over count term ≡ true →
+  pub met_one : (mask : ℕ) (old new : Rule) (term : NewTerm) → Met more mask old new term → IsRule count slots old → AreApart new.inputs count →
+      is_over count term ≡ true →
       (met_terms more new ≡ met_terms slots old ++ term ∷ []) × IsRule count more new
   unfolding met_terms
   met_one mask old new term met is new_apart over =
@@ -136,11 +134,12 @@ module _ (count : ℕ) (slots more : List Term) (grown : IsGrown slots more) whe
       ∙ ap (λ t. met_terms slots old ++ t ∷ []) met.is in (
         same,
         record {
-          places = λ k place e. elim (slice_get-push old.places met.place k place (rw met.pushed at e)) [
+          places = λ k place e. elim (get_push old.places met.place place k (rw met.pushed at e)) [
             | inl there ↦ readable_stays slots more grown old.inputs new.inputs widened place.0 (is.places k place there)
-            | inr last ↦ rw last.1 met.readable
+            | inr last ↦ rw (sym last.1) met.readable
           ];
-          inputs = more_inputs old.inputs new.inputs (met_terms slots old) term is.inputs met.names ∙ ap (λ terms. with_names [] (flat_map names_of terms)) (sym same);
+          inputs = more_inputs old.inputs new.inputs (met_terms slots old) term is.inputs met.names ∙
+              ap (λ terms. with_names [] (flat_map names_of terms)) (sym same);
           apart = new_apart;
           over = rw same (All-push (λ t. is_over count t ≡ true) (met_terms slots old) term is.over over);
         },
@@ -153,7 +152,8 @@ module _ (count : ℕ) (slots more : List Term) (grown : IsGrown slots more) whe
   reads_stay rule mask is has = record { long = has.long; bits = λ i. has.bits i ∙ sym (same_reads rule mask i is) }
 
   -- a rule that a term was met into has what the term reads too
-  pub met_reads : (mask : ℕ) (old new : Rule) (term : NewTerm) → Met more mask old new term → IsRule count slots old → HasReads slots mask old → HasReads more mask new
+  pub met_reads : (mask : ℕ) (old new : Rule) (term : NewTerm) → Met more mask old new term → IsRule count slots old → HasReads slots mask old →
+      HasReads more mask new
   met_reads mask old new term met is has = record {
     long = met.long;
     bits = λ i.
@@ -167,14 +167,14 @@ module _ (count : ℕ) (slots more : List Term) (grown : IsGrown slots more) whe
   -- all rules after one of them was written
   module _ (rules : List Rule) (are : AreRules count slots rules) (p : ℕ) (new : Rule) where
     pub rules_after : IsRule count more new → AreRules count more (set rules p new)
-    rules_after is k rule e = elim (slice_get-set rules p new k rule e) [
-      | inl here ↦ rw here.1 is
+    rules_after is k rule e = elim (get_set rules p new k rule e) [
+      | inl here ↦ rw (sym here.1) is
       | inr there ↦ rule_stays rule (are k rule there.1)
     ]
 
     pub reads_after : (masks : List ℕ) → HaveReads slots masks rules → HasReads more (slice_index masks p) new → HaveReads more masks (set rules p new)
-    reads_after masks have has k rule e = elim (slice_get-set rules p new k rule e) [
-      | inl here ↦ rw (here.0, here.1) has
+    reads_after masks have has k rule e = elim (get_set rules p new k rule e) [
+      | inl here ↦ rw (here.0, sym here.1) has
       | inr there ↦ reads_stay rule (slice_index masks k) (are k rule there.1) (have k rule there.1)
     ]
 
@@ -184,12 +184,8 @@ module _ (count : ℕ) (slots more : List Term) (grown : IsGrown slots more) whe
         ∙ ap (λ l. set l p (met_terms more new)) (map_agree (met_terms more) (met_terms slots) rules (λ k rule e. met_terms-stay rule (are k rule e)))
         ∙ ap (set (map (met_terms slots) rules) p) is
 
-set_same : {A : Type 0} (xs : List A) (p : ℕ) (x : A) → slice_get xs p ≡ Some x → set xs p x ≡ xs
-set_same [] p x e = refl
-set_same (y ∷ ys) zero x e = ap (λ z. z ∷ ys) (sym (same_Some y x e))
-set_same (y ∷ ys) (suc p) x e = ap (λ l. y ∷ l) (set_same ys p x e)
-
-found_terms : (a : Inside) (p : ℕ) (rule : Rule) → slice_get (rules_in a) p ≡ Some rule → slice_get (map (met_terms a.pool.slots.items) (rules_in a)) p ≡ Some (met_terms a.pool.slots.items rule)
+found_terms : (a : Inside) (p : ℕ) (rule : Rule) → slice_get (rules_in a) p ≡ Some rule →
+    slice_get (map (met_terms a.pool.slots.items) (rules_in a)) p ≡ Some (met_terms a.pool.slots.items rule)
 found_terms a p rule e = slice_get-map (met_terms a.pool.slots.items) (rules_in a) p ∙ ap (option_map (met_terms a.pool.slots.items)) e
 
 same_shown : (b : Inside) (s : System) → b.masks ≡ s.masks → map (met_terms b.pool.slots.items) (rules_in b) ≡ s.terms → shown b ≡ s
@@ -218,32 +214,43 @@ module _ (a b : Inside) (kept : IsKept a) (p : ℕ) (old new : Rule) (step : IsS
     marks = rw step.masks (step.size ∙ kept.marks);
     pool = step.pool;
     rules = rw (step.masks, step.rules) (rules_after (length a.masks) a.pool.slots.items b.pool.slots.items step.grown (rules_in a) kept.rules p new is);
-    reads = rw (step.masks, step.rules) (reads_after (length a.masks) a.pool.slots.items b.pool.slots.items step.grown (rules_in a) kept.rules p new a.masks kept.reads has);
+    reads = rw (step.masks, step.rules) (reads_after (length a.masks) a.pool.slots.items b.pool.slots.items step.grown (rules_in a) kept.rules p new a.masks
+        kept.reads has);
     opened = step.opened;
   }
 
   pub step_unmet : new ≡ old → IsRule (length a.masks) b.pool.slots.items new × (shown b ≡ shown a)
   step_unmet unmet =
-      let stays : IsRule (length a.masks) b.pool.slots.items old = rule_stays (length a.masks) a.pool.slots.items b.pool.slots.items step.grown old (kept.rules p old step.found) in
-      let same_terms : met_terms b.pool.slots.items new ≡ met_terms a.pool.slots.items old = ap (met_terms b.pool.slots.items) unmet ∙ met_terms-stay (length a.masks) a.pool.slots.items b.pool.slots.items step.grown old (kept.rules p old step.found) in
-      let terms = shown_after (length a.masks) a.pool.slots.items b.pool.slots.items step.grown (rules_in a) kept.rules p new (met_terms a.pool.slots.items old) same_terms in
+      let stays : IsRule (length a.masks) b.pool.slots.items old =
+      rule_stays (length a.masks) a.pool.slots.items b.pool.slots.items step.grown old (kept.rules p old step.found) in
+      let same_terms : met_terms b.pool.slots.items new ≡ met_terms a.pool.slots.items old = ap (met_terms b.pool.slots.items) unmet ∙
+      met_terms-stay (length a.masks) a.pool.slots.items b.pool.slots.items step.grown old (kept.rules p old step.found) in
+      let terms = shown_after (length a.masks) a.pool.slots.items b.pool.slots.items step.grown (rules_in a) kept.rules p new (met_terms a.pool.slots.items old)
+      same_terms in
       let same : set (map (met_terms a.pool.slots.items) (rules_in a)) p (met_terms a.pool.slots.items old) ≡ map (met_terms a.pool.slots.items) (rules_in a) =
       set_same (map (met_terms a.pool.slots.items) (rules_in a)) p (met_terms a.pool.slots.items old) (found_terms a p old step.found) in
       (rw unmet stays, same_shown b (shown a) step.masks (ap (map (met_terms b.pool.slots.items)) step.rules ∙ terms ∙ same))
 
   pub step_unmet_reads : new ≡ old → HasReads b.pool.slots.items (slice_index a.masks p) new
-  step_unmet_reads unmet = rw unmet (reads_stay (length a.masks) a.pool.slots.items b.pool.slots.items step.grown old (slice_index a.masks p) (kept.rules p old step.found) (kept.reads p old step.found))
+  step_unmet_reads unmet = rw unmet (reads_stay (length a.masks) a.pool.slots.items b.pool.slots.items step.grown old (slice_index a.masks p)
+      (kept.rules p old step.found) (kept.reads p old step.found))
 
   pub step_met_reads : (term : NewTerm) → Met b.pool.slots.items (slice_index a.masks p) old new term → HasReads b.pool.slots.items (slice_index a.masks p) new
-  step_met_reads term met = met_reads (length a.masks) a.pool.slots.items b.pool.slots.items step.grown (slice_index a.masks p) old new term met (kept.rules p old step.found) (kept.reads p old step.found)
+  step_met_reads term met = met_reads (length a.masks) a.pool.slots.items b.pool.slots.items step.grown (slice_index a.masks p) old new term met
+      (kept.rules p old step.found) (kept.reads p old step.found)
 
-  pub step_met : (term : NewTerm) → Met b.pool.slots.items (slice_index a.masks p) old new term → is_over (length a.masks) term ≡ true → IsRule (length a.masks) b.pool.slots.items new × (shown b ≡ with_term (shown a) p term)
+  pub step_met : (term : NewTerm) → Met b.pool.slots.items (slice_index a.masks p) old new term → is_over (length a.masks) term ≡ true →
+      IsRule (length a.masks) b.pool.slots.items new × (shown b ≡ with_term (shown a) p term)
   step_met term met over =
-      let marked : AreApart new.inputs (length b.pool.marks.items) = rw step.inputs (apart_from_marks b.pool.inputs.items b.pool.marks.items step.pool.marked) in
+      let marked : AreApart new.inputs (length b.pool.marks.items) = rw step.inputs (apart_from_marks b.pool.inputs.items b.pool.marks.items step.pool.marked)
+      in
       let new_apart : AreApart new.inputs (length a.masks) = subst (AreApart new.inputs) (step.size ∙ kept.marks) marked in
-      let both = met_one (length a.masks) a.pool.slots.items b.pool.slots.items step.grown (slice_index a.masks p) old new term met (kept.rules p old step.found) new_apart over in
-      let before : terms_at (shown a) p ≡ met_terms a.pool.slots.items old = get_or_from_slice_get (map (met_terms a.pool.slots.items) (rules_in a)) p (met_terms a.pool.slots.items old) [] (found_terms a p old step.found) in
-      let terms = shown_after (length a.masks) a.pool.slots.items b.pool.slots.items step.grown (rules_in a) kept.rules p new (terms_at (shown a) p ++ term ∷ []) (both.0 ∙ ap (λ l. l ++ term ∷ []) (sym before)) in
+      let both = met_one (length a.masks) a.pool.slots.items b.pool.slots.items step.grown (slice_index a.masks p) old new term met
+      (kept.rules p old step.found) new_apart over in
+      let before : terms_at (shown a) p ≡ met_terms a.pool.slots.items old =
+      get_or_from_slice_get (map (met_terms a.pool.slots.items) (rules_in a)) p (met_terms a.pool.slots.items old) [] (found_terms a p old step.found) in
+      let terms = shown_after (length a.masks) a.pool.slots.items b.pool.slots.items step.grown (rules_in a) kept.rules p new
+      (terms_at (shown a) p ++ term ∷ []) (both.0 ∙ ap (λ l. l ++ term ∷ []) (sym before)) in
       (both.1, same_shown b (with_term (shown a) p term) step.masks (ap (map (met_terms b.pool.slots.items)) step.rules ∙ terms))
 
 -- the system b is the system a after the inputs of another position may have been marked
@@ -298,28 +305,28 @@ rules_written a rows p places is =
     ∙ rules-set a.rows (map (λ (places : SmallVec TermId). places.items) a.places.items) p (row_at rows p) places.items
 
 -- the rule of a position
-pub rule_at : (a : Inside) (p : ℕ) (places : SmallVec TermId) → IsKept a → p < length a.masks → slice_get a.places.items p ≡ Some places → slice_get (rules_in a) p ≡ Some (rule_of (row_at a.rows p) places.items)
+pub rule_at : (a : Inside) (p : ℕ) (places : SmallVec TermId) → IsKept a → p < length a.masks → slice_get a.places.items p ≡ Some places →
+    slice_get (rules_in a) p ≡ Some (rule_of (row_at a.rows p) places.items)
 rule_at a p places kept within e = rule_found (λ (places : SmallVec TermId). places.items) a.rows a.places.items p places (omega (arith, kept.rows)) e
 
 -- the list of places that is read is that of the position
-pub found_rule : (a : Inside) (s : System) (p : ℕ) (places : SmallVec TermId) → IsKept a → shown a ≡ s → p < length s.masks → places ≡ get_or a.places.items p places → slice_get (rules_in a) p ≡ Some (rule_of (row_at a.rows p) places.items)
+pub found_rule : (a : Inside) (s : System) (p : ℕ) (places : SmallVec TermId) → IsKept a → shown a ≡ s → p < length s.masks →
+    places ≡ get_or a.places.items p places → slice_get (rules_in a) p ≡ Some (rule_of (row_at a.rows p) places.items)
 found_rule a s p places kept same within read =
     let masks : length a.masks ≡ length s.masks = ap (λ (x : System). length x.masks) same in
     rule_at a p places kept (omega arith) (slice_get_read a.places.items (length a.places.items) p places refl (omega (arith, kept.places)) read)
 
 -- and where none is read
-pub some_rule : (a : Inside) (s : System) (p : ℕ) → IsKept a → shown a ≡ s → p < length s.masks → slice_get (rules_in a) p ≡ Some (rule_of (row_at a.rows p) (get_or a.places.items p no_places).items)
+pub some_rule : (a : Inside) (s : System) (p : ℕ) → IsKept a → shown a ≡ s → p < length s.masks →
+    slice_get (rules_in a) p ≡ Some (rule_of (row_at a.rows p) (get_or a.places.items p no_places).items)
 some_rule a s p kept same within =
     let masks : length a.masks ≡ length s.masks = ap (λ (x : System). length x.masks) same in
     rule_at a p (get_or a.places.items p no_places) kept (omega arith) (slice_get-get_or a.places.items p no_places (omega (arith, kept.places)))
 
 -- ---- a system with no term met in
-empty_rules : (a : Inside) → a.rows ≡ replicate (length a.masks) empty_row → AreEmptyLists (length a.masks) (map (λ (places : SmallVec TermId). places.items) a.places.items) → rules_in a ≡ replicate (length a.masks) empty_rule
+empty_rules : (a : Inside) → a.rows ≡ replicate (length a.masks) empty_row →
+    AreEmptyLists (length a.masks) (map (λ (places : SmallVec TermId). places.items) a.places.items) → rules_in a ≡ replicate (length a.masks) empty_rule
 empty_rules a rows places = rw (rows, places) (rules-empty (length a.masks))
-
-map_alike : {A B : Type 0} (f : A → B) (y : B) (xs : List A) → ((k : ℕ) (x : A) → slice_get xs k ≡ Some x → f x ≡ y) → map f xs ≡ replicate (length xs) y
-map_alike f y [] same = refl
-map_alike f y (x ∷ xs) same = rw (same zero x refl, map_alike f y xs (λ k z e. same (suc k) z e)) refl
 
 module _ (count : ℕ) (slots : List Term) where
   no_terms : met_terms slots empty_rule ≡ []
@@ -337,11 +344,13 @@ module _ (count : ℕ) (slots : List Term) where
   empty_has_reads : (mask : ℕ) → HasReads slots mask empty_rule
   empty_has_reads mask = record { long = refl; bits = λ i. refl }
 
-pub new_kept : (a : Inside) → length a.masks < 2 ^ 32 → All (λ mask. mask < 2 ^ FACT_BITS) a.masks → a.rows ≡ replicate (length a.masks) empty_row → AreEmptyLists (length a.masks) (map (λ (places : SmallVec TermId). places.items) a.places.items) →
+pub new_kept : (a : Inside) → length a.masks < 2 ^ 32 → All (λ mask. mask < 2 ^ FACT_BITS) a.masks → a.rows ≡ replicate (length a.masks) empty_row →
+    AreEmptyLists (length a.masks) (map (λ (places : SmallVec TermId). places.items) a.places.items) →
     a.pool.slots.items ≡ [] → a.pool.inputs.items ≡ [] → length a.pool.marks.items ≡ length a.masks → IsKept a
 new_kept a fits facts rows places slots inputs marks =
     let rules = empty_rules a rows places in
-    let is_empty : (k : ℕ) (rule : Rule) → slice_get (rules_in a) k ≡ Some rule → rule ≡ empty_rule = λ k rule e. replicate-at (length a.masks) empty_rule k rule (ap (λ l. slice_get l k) (sym rules) ∙ e) in
+    let is_empty : (k : ℕ) (rule : Rule) → slice_get (rules_in a) k ≡ Some rule → rule ≡ empty_rule =
+    λ k rule e. sym (get_replicate (length a.masks) empty_rule k rule (ap (λ l. slice_get l k) (sym rules) ∙ e)) in
     record {
       fits = fits;
       facts = facts;
@@ -358,10 +367,12 @@ new_kept a fits facts rows places slots inputs marks =
       opened = inputs ∙ ap (λ (r : EdgeRow). r.positions) (sym (ap (λ l. row_at l a.marked) rows ∙ empty_row_at (length a.masks) a.marked));
     }
 
-pub new_shown : (a : Inside) → a.rows ≡ replicate (length a.masks) empty_row → AreEmptyLists (length a.masks) (map (λ (places : SmallVec TermId). places.items) a.places.items) → shown a ≡ with_masks a.masks
+pub new_shown : (a : Inside) → a.rows ≡ replicate (length a.masks) empty_row →
+    AreEmptyLists (length a.masks) (map (λ (places : SmallVec TermId). places.items) a.places.items) → shown a ≡ with_masks a.masks
 new_shown a rows places =
     let rules = empty_rules a rows places in
     same_shown a (with_masks a.masks) refl
     (ap (map (met_terms a.pool.slots.items)) rules
-    ∙ map_alike (met_terms a.pool.slots.items) [] (replicate (length a.masks) empty_rule) (λ k rule e. ap (met_terms a.pool.slots.items) (replicate-at (length a.masks) empty_rule k rule e) ∙ no_terms (length a.masks) a.pool.slots.items)
+    ∙ map_all (met_terms a.pool.slots.items) [] (replicate (length a.masks) empty_rule)
+    (λ k rule e. ap (met_terms a.pool.slots.items) (sym (get_replicate (length a.masks) empty_rule k rule e)) ∙ no_terms (length a.masks) a.pool.slots.items)
     ∙ ap (λ n. replicate n []) (length-replicate (length a.masks) empty_rule))

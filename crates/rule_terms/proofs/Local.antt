@@ -1,12 +1,14 @@
 -- A value goes by the bits that are read alone.
-use Rattle.std.proofs.Common.{◌≡◌, ℕ, zero, suc, ◌^◌, ◌<◌, Bool, true, false, cond, eqb, eq-eqb, eqb-true, ◌&&◌, nat_lt, List, [], ◌∷◌, length, slice_index, All, bit_and, bit_or, refl, ap, sym, ◌∙◌, subst, arith, inl, inr}
+use Rattle.std.proofs.Common.{◌≡◌, ℕ, zero, suc, ◌^◌, ◌<◌, Bool, true, false, cond, eqb, eq-eqb, eqb-true, ◌&&◌, nat_lt, List, [], ◌∷◌, length, slice_index}
+use Rattle.std.proofs.Common.{All, bit_and, bit_or, refl, ap, sym, ◌∙◌, subst, arith, inl, inr}
 use Rattle.std.specs.List.{fold}
 use Rattle.std.specs.Int.{bit_at}
 use Rattle.std.proofs.lemmas.Bool.{and_parts, and_from, ltb-true, le-leb, cond-true, cases_Bool, cases_eq, cases_lt}
 use Rattle.std.proofs.lemmas.List.Elements.{All-head, All-tail, All-get_or}
 use Rattle.std.proofs.lemmas.List.{get_or_past}
 use Rattle.std.proofs.lemmas.Nat.{and_le_l}
-use Rattle.std.proofs.lemmas.Nat.Bits.{bit_at_and, bit_at_or, bit_at-lt, bit_at-zero, bit_at-pow_same, bit_at_mask_below, bit_at_mask_above, same_from_bits_below}
+use Rattle.std.proofs.lemmas.Nat.Bits.{bit_at_and, bit_at_or, bit_at-lt, bit_at-zero, bit_at-pow_same, bit_at_mask_below, bit_at_mask_above}
+use Rattle.std.proofs.lemmas.Nat.Bits.{same_from_bits_below}
 use Rattle.lattice_words.specs.declared.word.TheConstants.{FACT_BITS}
 use Rattle.lattice_words.specs.Ladders.{shift_of, is_byte_bit}
 use Rattle.lattice_words.specs.declared.value.TheConstants.{ALL_BYTES}
@@ -83,15 +85,19 @@ cond_agrees false w z x y h = h
 -- ---- terms
 module _ (count : ℕ) (words others : ℕ → ℕ) where
   abbrev IsLocalAt : NewTerm → Type 0
-  IsLocalAt t = is_over count t ≡ true → (wanted : ℕ) → ((q : ℕ) → AgreeOn (reads_of q t wanted) (words q) (others q)) → AgreeOn wanted (meaning words t) (meaning others t)
+  IsLocalAt t = is_over count t ≡ true → (wanted : ℕ) → ((q : ℕ) → AgreeOn (reads_of q t wanted) (words q) (others q)) →
+      AgreeOn wanted (meaning words t) (meaning others t)
 
   local_layer : (x : NewTerm-F NewTerm) →
-      (is_layer_over count (map-NewTerm NewTerm Bool (is_over count) x) ≡ true → (wanted : ℕ) → ((q : ℕ) → AgreeOn (layer_reads q (map-NewTerm NewTerm (ℕ → ℕ) (reads_of q) x) wanted) (words q) (others q)) →
-      AgreeOn wanted (layer_meaning words (map-NewTerm NewTerm ℕ (meaning words) x)) (layer_meaning others (map-NewTerm NewTerm ℕ (meaning others) x))) → IsLocalAt (roll-NewTerm x)
+      (is_layer_over count (map-NewTerm NewTerm Bool (is_over count) x) ≡ true → (wanted : ℕ) →
+      ((q : ℕ) → AgreeOn (layer_reads q (map-NewTerm NewTerm (ℕ → ℕ) (reads_of q) x) wanted) (words q) (others q)) →
+      AgreeOn wanted (layer_meaning words (map-NewTerm NewTerm ℕ (meaning words) x)) (layer_meaning others (map-NewTerm NewTerm ℕ (meaning others) x))) →
+      IsLocalAt (roll-NewTerm x)
   local_layer x h over wanted agree i l is =
       ap (λ w. bit_at w i) (fold-roll-NewTerm ℕ (layer_meaning words) x)
       ∙ h (sym (fold-roll-NewTerm Bool (is_layer_over count) x) ∙ over) wanted
-      (λ q. agree_same (reads_of q (roll-NewTerm x) wanted) (layer_reads q (map-NewTerm NewTerm (ℕ → ℕ) (reads_of q) x) wanted) (words q) (others q) (ap (λ f. f wanted) (fold-roll-NewTerm (ℕ → ℕ) (layer_reads q) x)) (agree q)) i l is
+      (λ q. agree_same (reads_of q (roll-NewTerm x) wanted) (layer_reads q (map-NewTerm NewTerm (ℕ →
+      ℕ) (reads_of q) x) wanted) (words q) (others q) (ap (λ f. f wanted) (fold-roll-NewTerm (ℕ → ℕ) (layer_reads q) x)) (agree q)) i l is
       ∙ ap (λ w. bit_at w i) (sym (fold-roll-NewTerm ℕ (layer_meaning others) x))
 
   layers : (y : NewTerm-F ((t : NewTerm) × IsLocalAt t)) → IsLocalAt (roll-NewTerm (map-NewTerm ((t : NewTerm) × IsLocalAt t) NewTerm (λ e. e.0) y))
@@ -111,18 +117,23 @@ module _ (count : ℕ) (words others : ℕ → ℕ) where
   layers (Unless input bit then') = local_layer (Unless input bit then'.0) (λ over wanted agree.
       let outer = and_parts (nat_lt input.0 count && nat_lt bit 64) (is_over count then'.0) over in
       let small = ltb-true bit 64 (and_parts (nat_lt input.0 count) (nat_lt bit 64) outer.0).1 in
-      let tested : bit_at (cond (eqb input.0 input.0) (2 ^ bit) 0) bit ≡ 1 = ap (λ w. bit_at w bit) (cond-true (eqb input.0 input.0) (2 ^ bit) 0 (eq-eqb input.0 input.0 refl)) ∙ bit_at-pow_same bit in
-      let one : bit_at (words input.0) bit ≡ bit_at (others input.0) bit = agree input.0 bit small (or_left (cond (eqb input.0 input.0) (2 ^ bit) 0) (reads_of input.0 then'.0 wanted) bit tested) in
-      let part : AgreeOn wanted (meaning words then'.0) (meaning others then'.0) = then'.1 outer.1 wanted (λ q. agree_right (cond (eqb input.0 q) (2 ^ bit) 0) (reads_of q then'.0 wanted) (words q) (others q) (agree q)) in
+      let tested : bit_at (cond (eqb input.0 input.0) (2 ^ bit) 0) bit ≡ 1 =
+      ap (λ w. bit_at w bit) (cond-true (eqb input.0 input.0) (2 ^ bit) 0 (eq-eqb input.0 input.0 refl)) ∙ bit_at-pow_same bit in
+      let one : bit_at (words input.0) bit ≡ bit_at (others input.0) bit =
+      agree input.0 bit small (or_left (cond (eqb input.0 input.0) (2 ^ bit) 0) (reads_of input.0 then'.0 wanted) bit tested) in
+      let part : AgreeOn wanted (meaning words then'.0) (meaning others then'.0) =
+      then'.1 outer.1 wanted (λ q. agree_right (cond (eqb input.0 q) (2 ^ bit) 0) (reads_of q then'.0 wanted) (words q) (others q) (agree q)) in
       subst (λ b. AgreeOn wanted (cond (eqb (bit_at (words input.0) bit) 1) all_ones (meaning words then'.0)) (cond b all_ones (meaning others then'.0)))
-      (same_test (words input.0) (others input.0) bit one) (cond_agrees (eqb (bit_at (words input.0) bit) 1) wanted all_ones (meaning words then'.0) (meaning others then'.0) part))
+      (same_test (words input.0) (others input.0) bit one) (cond_agrees (eqb (bit_at (words input.0) bit) 1) wanted all_ones (meaning words then'.0)
+      (meaning others then'.0) part))
   layers (Shift bytes of) = local_layer (Shift bytes of.0) (λ over wanted agree.
       shift_agrees bytes wanted (meaning words of.0) (meaning others of.0) (of.1 over (with_byte_bits wanted) agree))
   layers (KeepAlign step of) = local_layer (KeepAlign step of.0) (λ over wanted agree i l is.
       same_after_step step (meaning words of.0) (meaning others of.0) i l (of.1 over wanted agree i l is))
   layers (Spread bit to of) = local_layer (Spread bit to of.0) (λ over wanted agree i l is.
       let parts = and_parts (nat_lt bit 64) (is_over count of.0) over in
-      let one : bit_at (meaning words of.0) bit ≡ bit_at (meaning others of.0) bit = of.1 parts.1 (2 ^ bit) agree bit (ltb-true bit 64 parts.0) (bit_at-pow_same bit) in
+      let one : bit_at (meaning words of.0) bit ≡ bit_at (meaning others of.0) bit =
+      of.1 parts.1 (2 ^ bit) agree bit (ltb-true bit 64 parts.0) (bit_at-pow_same bit) in
       ap (λ b. bit_at (cond b to 0) i) (same_test (meaning words of.0) (meaning others of.0) bit one))
 
   -- a term gives the same of the wanted bits where the inputs have the same of the bits that it reads for them
@@ -130,9 +141,11 @@ module _ (count : ℕ) (words others : ℕ → ℕ) where
   meaning-agrees = ind-NewTerm IsLocalAt (λ x y is. subst (λ z. IsLocalAt (roll-NewTerm z)) is (layers y))
 
   -- agreement on what a list of terms reads is agreement on what it starts from
-  reads_start : (q wanted start : ℕ) (terms : List NewTerm) → AgreeOn (fold (λ bits term. bit_or bits (reads_of q term wanted)) start terms) (words q) (others q) → AgreeOn start (words q) (others q)
+  reads_start : (q wanted start : ℕ) (terms : List NewTerm) →
+      AgreeOn (fold (λ bits term. bit_or bits (reads_of q term wanted)) start terms) (words q) (others q) → AgreeOn start (words q) (others q)
   reads_start q wanted start [] h = h
-  reads_start q wanted start (term ∷ terms) h = agree_left start (reads_of q term wanted) (words q) (others q) (reads_start q wanted (bit_or start (reads_of q term wanted)) terms h)
+  reads_start q wanted start (term ∷ terms) h =
+      agree_left start (reads_of q term wanted) (words q) (others q) (reads_start q wanted (bit_or start (reads_of q term wanted)) terms h)
 
   pub meet-agrees : (terms : List NewTerm) → All (λ term. is_over count term ≡ true) terms → (wanted : ℕ) (starts : ℕ → ℕ) →
       ((q : ℕ) → AgreeOn (fold (λ bits term. bit_or bits (reads_of q term wanted)) (starts q) terms) (words q) (others q)) →
@@ -143,24 +156,29 @@ module _ (count : ℕ) (words others : ℕ → ℕ) where
       let here : AgreeOn wanted (meaning words term) (meaning others term) =
       meaning-agrees term (All-head (λ t. is_over count t ≡ true) term terms over) wanted
       (λ q. agree_right (starts q) (reads_of q term wanted) (words q) (others q) (reads_start q wanted (more q) terms (agree q))) in
-      meet-agrees terms (All-tail (λ t. is_over count t ≡ true) term terms over) wanted more agree (bit_and a (meaning words term)) (bit_and b (meaning others term))
+      meet-agrees terms (All-tail (λ t. is_over count t ≡ true) term terms over) wanted more agree (bit_and a (meaning words term))
+      (bit_and b (meaning others term))
       (λ i l is. bit_at_and a (meaning words term) i ∙ rw (h i l is, here i l is) (sym (bit_at_and b (meaning others term) i)))
 
 -- ---- systems
 -- a position's value has the same facts of its mask where the inputs have the same of what is read
-pub value-agrees : (s : System) → IsSystem s → (p : ℕ) (words others : ℕ → ℕ) → ((q : ℕ) → AgreeOn (reads_by s p q) (words q) (others q)) → AgreeOn (slice_index s.masks p) (value s p words) (value s p others)
+pub value-agrees : (s : System) → IsSystem s → (p : ℕ) (words others : ℕ → ℕ) → ((q : ℕ) → AgreeOn (reads_by s p q) (words q) (others q)) →
+    AgreeOn (slice_index s.masks p) (value s p words) (value s p others)
 value-agrees s is p words others agree =
-    meet-agrees (length s.masks) words others (terms_at s p) (terms-over s is p) (slice_index s.masks p) (λ q. 0) agree (slice_index s.masks p) (slice_index s.masks p) (λ i l on. refl)
+    meet-agrees (length s.masks) words others (terms_at s p) (terms-over s is p) (slice_index s.masks p) (λ q. 0) agree (slice_index s.masks p)
+    (slice_index s.masks p) (λ i l on. refl)
 
 -- the words that were looked at agree on what is read of each position, where they do on what is read of each input
 looked_agrees : (inputs : List PosId) (a b : List ℕ) (reads : ℕ → ℕ) → length a ≡ length inputs → length b ≡ length inputs →
-    ((i : ℕ) → i < length inputs → AgreeOn (reads (input_at inputs i).0) (slice_index a i) (slice_index b i)) → (q : ℕ) → AgreeOn (reads q) (looked_word inputs a q) (looked_word inputs b q)
+    ((i : ℕ) → i < length inputs → AgreeOn (reads (input_at inputs i).0) (slice_index a i) (slice_index b i)) → (q : ℕ) →
+    AgreeOn (reads q) (looked_word inputs a q) (looked_word inputs b q)
 looked_agrees [] a b reads long same agree q = λ i l is. refl
 looked_agrees (p ∷ ps) [] b reads long same agree q = absurd (omega arith)
 looked_agrees (p ∷ ps) (v ∷ vs) [] reads long same agree q = absurd (omega arith)
 looked_agrees (p ∷ ps) (v ∷ vs) (w ∷ ws) reads long same agree q =
     by_case (eqb p.0 q) refl (looked_agrees ps vs ws reads (omega arith) (omega arith) (λ i l. agree (suc i) (omega arith)) q) where
-      by_case : (b : Bool) → eqb p.0 q ≡ b → AgreeOn (reads q) (looked_word ps vs q) (looked_word ps ws q) → AgreeOn (reads q) (cond b v (looked_word ps vs q)) (cond b w (looked_word ps ws q))
+      by_case : (b : Bool) → eqb p.0 q ≡ b → AgreeOn (reads q) (looked_word ps vs q) (looked_word ps ws q) →
+          AgreeOn (reads q) (cond b v (looked_word ps vs q)) (cond b w (looked_word ps ws q))
       by_case true e rest = subst (λ n. AgreeOn (reads n) v w) (eqb-true p.0 q e) (agree zero (omega arith))
       by_case false e rest = rest
 

@@ -6,9 +6,11 @@ use Rattle.rule_terms.specs.Meaning.{meaning}
 use Rattle.rule_terms.specs.System.{System, terms_at, with_term, value}
 
 -- the position's value with one more term is the And of the two
-pub value-with_term : (s : System) (p : ℕ) (term : NewTerm) (words : ℕ → ℕ) → p < length s.terms → value (with_term s p term) p words ≡ bit_and (value s p words) (meaning words term)
+pub value-with_term : (s : System) (p : ℕ) (term : NewTerm) (words : ℕ → ℕ) → p < length s.terms →
+    value (with_term s p term) p words ≡ bit_and (value s p words) (meaning words term)
 value-with_term s p term words within =
-    rw (get_or-set_same s.terms p (terms_at s p ++ term ∷ []) [] within) (fold_push (λ bits t. bit_and bits (meaning words t)) (slice_index s.masks p) (terms_at s p) term)
+    rw (get_or-set_same s.terms p (terms_at s p ++ term ∷ []) [] within) (fold_push (λ bits t. bit_and bits (meaning words t)) (slice_index s.masks p)
+    (terms_at s p) term)
 
 -- no other position's value changes
 pub value-with_term_other : (s : System) (p q : ℕ) (term : NewTerm) (words : ℕ → ℕ) → q ≢ p → value (with_term s p term) q words ≡ value s q words

@@ -25,8 +25,10 @@ zeros count = length-replicate {A = ℕ} count 0
 
 module _ (old new : Pool) (row last : EdgeRow) (more : List PosId) (noted : List ℕ) (places : List TermId) (place : TermId) (mask : ℕ) (term : NewTerm) where
   -- the term is in the pool, its place behind the others, and what it reads stands beside the inputs
-  pub met_put : Has new term place.0 → new.inputs.items ≡ with_names old.inputs.items (names_of term) → old.inputs.items ≡ row.positions → new.inputs.items ≡ old.inputs.items ++ more → length row.bits ≡ length row.positions →
-      last ≡ rewritten (with_inputs row more) noted → length noted ≡ length (with_inputs row more).bits → ReadsToo new.slots.items mask place.0 (with_inputs row more).bits noted →
+  pub met_put : Has new term place.0 → new.inputs.items ≡ with_names old.inputs.items (names_of term) → old.inputs.items ≡ row.positions →
+      new.inputs.items ≡ old.inputs.items ++ more → length row.bits ≡ length row.positions →
+      last ≡ rewritten (with_inputs row more) noted → length noted ≡ length (with_inputs row more).bits →
+      ReadsToo new.slots.items mask place.0 (with_inputs row more).bits noted →
       (behind : List TermId) → behind ≡ places ++ place ∷ [] → Met new.slots.items mask (rule_of row places) (rule_of last behind) term
   met_put has names before grown beside is long reads behind pushed =
       let inputs : last.positions ≡ new.inputs.items = ap (λ (r : EdgeRow). r.positions) is ∙ ap (λ l. l ++ more) (sym before) ∙ sym grown in
@@ -36,8 +38,10 @@ module _ (old new : Pool) (row last : EdgeRow) (more : List PosId) (noted : List
         pushed = pushed;
         readable = record { within = has.within; numbered = rw inputs has.numbered };
         is = rw inputs has.named;
-        long = ap length bits ∙ long ∙ length-append row.bits (replicate (length more) 0) ∙ omega (arith, beside, zeros (length more), length-append row.positions more, ap length is_positions);
-        reads = λ i. ap (λ l. slice_index l i) bits ∙ reads i ∙ ap (λ b. bit_or b (numbered_reads i (nth (slot_terms new.slots.items) place.0) mask)) (beside_more row.bits (length more) i);
+        long = ap length bits ∙ long ∙ length-append row.bits (replicate (length more) 0) ∙
+            omega (arith, beside, zeros (length more), length-append row.positions more, ap length is_positions);
+        reads = λ i. ap (λ l. slice_index l i) bits ∙ reads i ∙
+            ap (λ b. bit_or b (numbered_reads i (nth (slot_terms new.slots.items) place.0) mask)) (beside_more row.bits (length more) i);
         names = inputs ∙ names ∙ ap (λ l. with_names l (names_of term)) before;
       }
     where

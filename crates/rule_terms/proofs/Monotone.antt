@@ -1,5 +1,6 @@
 -- More facts of the inputs leave more facts of a position.
-use Rattle.std.proofs.Common.{◌≡◌, ℕ, ◌<◌, Bool, true, false, cond, eqb, eq-eqb, eqb-true, ◌&&◌, nat_lt, List, [], ◌∷◌, length, slice_index, All, bit_and, bit_or, refl, ap, sym, ◌∙◌, subst, arith, inl, inr}
+use Rattle.std.proofs.Common.{◌≡◌, ℕ, ◌<◌, Bool, true, false, cond, eqb, eq-eqb, eqb-true, ◌&&◌, nat_lt, List, [], ◌∷◌, length, slice_index, All, bit_and}
+use Rattle.std.proofs.Common.{bit_or, refl, ap, sym, ◌∙◌, subst, arith, inl, inr}
 use Rattle.std.specs.Int.{bit_at}
 use Rattle.std.proofs.lemmas.Bool.{and_parts, ltb-true, cases_lt}
 use Rattle.std.proofs.lemmas.List.Elements.{All-head, All-tail, All-get_or, All-nil}
@@ -54,17 +55,22 @@ module _ (count : ℕ) (words others : ℕ → ℕ) (less : (q : ℕ) → IsWith
   IsMonotoneAt t = is_over count t ≡ true → IsWithin (meaning words t) (meaning others t)
 
   -- a term by its layer
-  by_layer : (x : NewTerm-F NewTerm) → (is_layer_over count (map-NewTerm NewTerm Bool (is_over count) x) ≡ true → IsWithin (layer_meaning words (map-NewTerm NewTerm ℕ (meaning words) x)) (layer_meaning others (map-NewTerm NewTerm ℕ (meaning others) x))) → IsMonotoneAt (roll-NewTerm x)
+  by_layer : (x : NewTerm-F NewTerm) → (is_layer_over count (map-NewTerm NewTerm Bool (is_over count) x) ≡ true →
+      IsWithin (layer_meaning words (map-NewTerm NewTerm ℕ (meaning words) x)) (layer_meaning others (map-NewTerm NewTerm ℕ (meaning others) x))) →
+      IsMonotoneAt (roll-NewTerm x)
   by_layer x h over =
-      within_same (meaning words (roll-NewTerm x)) (layer_meaning words (map-NewTerm NewTerm ℕ (meaning words) x)) (meaning others (roll-NewTerm x)) (layer_meaning others (map-NewTerm NewTerm ℕ (meaning others) x))
+      within_same (meaning words (roll-NewTerm x)) (layer_meaning words (map-NewTerm NewTerm ℕ (meaning words) x)) (meaning others (roll-NewTerm x))
+      (layer_meaning others (map-NewTerm NewTerm ℕ (meaning others) x))
       (fold-roll-NewTerm ℕ (layer_meaning words) x) (fold-roll-NewTerm ℕ (layer_meaning others) x)
       (h (sym (fold-roll-NewTerm Bool (is_layer_over count) x) ∙ over))
 
   layers : (y : NewTerm-F ((t : NewTerm) × IsMonotoneAt t)) → IsMonotoneAt (roll-NewTerm (map-NewTerm ((t : NewTerm) × IsMonotoneAt t) NewTerm (λ e. e.0) y))
   layers (Const bits) = by_layer (Const bits) (λ over i l. omega arith)
   layers (Word p) = by_layer (Word p) (λ over. less p.0)
-  layers (And left right) = by_layer (And left.0 right.0) (λ over. let parts = and_parts (is_over count left.0) (is_over count right.0) over in and_within _ _ _ _ (left.1 parts.0) (right.1 parts.1))
-  layers (Or left right) = by_layer (Or left.0 right.0) (λ over. let parts = and_parts (is_over count left.0) (is_over count right.0) over in or_within _ _ _ _ (left.1 parts.0) (right.1 parts.1))
+  layers (And left right) = by_layer (And left.0 right.0) (λ over. let parts = and_parts (is_over count left.0) (is_over count right.0) over in
+      and_within _ _ _ _ (left.1 parts.0) (right.1 parts.1))
+  layers (Or left right) = by_layer (Or left.0 right.0) (λ over. let parts = and_parts (is_over count left.0) (is_over count right.0) over in
+      or_within _ _ _ _ (left.1 parts.0) (right.1 parts.1))
   layers (Unless input bit then') = by_layer (Unless input bit then'.0) (λ over.
       let outer = and_parts (nat_lt input.0 count && nat_lt bit 64) (is_over count then'.0) over in
       let small = ltb-true bit 64 (and_parts (nat_lt input.0 count) (nat_lt bit 64) outer.0).1 in
@@ -79,7 +85,8 @@ module _ (count : ℕ) (words others : ℕ → ℕ) (less : (q : ℕ) → IsWith
   pub meaning-within : (t : NewTerm) → IsMonotoneAt t
   meaning-within = ind-NewTerm IsMonotoneAt (λ x y is. subst (λ z. IsMonotoneAt (roll-NewTerm z)) is (layers y))
 
-  pub meet-within : (terms : List NewTerm) → All (λ term. is_over count term ≡ true) terms → (a b : ℕ) → IsWithin a b → IsWithin (meet_of words a terms) (meet_of others b terms)
+  pub meet-within : (terms : List NewTerm) → All (λ term. is_over count term ≡ true) terms → (a b : ℕ) → IsWithin a b →
+      IsWithin (meet_of words a terms) (meet_of others b terms)
   meet-within [] over a b h = h
   meet-within (term ∷ terms) over a b h =
       meet-within terms (All-tail (λ term. is_over count term ≡ true) term terms over) (bit_and a (meaning words term)) (bit_and b (meaning others term))
@@ -94,7 +101,8 @@ terms-over s is p = elim (cases_lt p (length s.terms)) [
 ]
 
 -- what is left of a position is monotone in the words
-pub value-within : (s : System) → IsSystem s → (p : ℕ) (words others : ℕ → ℕ) → ((q : ℕ) → IsWithin (words q) (others q)) → IsWithin (value s p words) (value s p others)
+pub value-within : (s : System) → IsSystem s → (p : ℕ) (words others : ℕ → ℕ) → ((q : ℕ) → IsWithin (words q) (others q)) →
+    IsWithin (value s p words) (value s p others)
 value-within s is p words others less =
     meet-within (length s.masks) words others less (terms_at s p) (terms-over s is p) (slice_index s.masks p) (slice_index s.masks p) (λ i l. omega arith)
 

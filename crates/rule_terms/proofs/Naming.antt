@@ -1,5 +1,6 @@
 -- The inputs of a position: each position that its terms name, once, and a value goes by their words alone.
-use Rattle.std.proofs.Common.{◌≡◌, ◌⊎◌, ℕ, Bool, true, false, cond, eqb, eq-eqb, eqb-true, ◌||◌, List, [], ◌∷◌, ◌++◌, map, slice_get, slice_index, Some, bit_and, refl, ap, sym, ◌∙◌, subst, inl, inr}
+use Rattle.std.proofs.Common.{◌≡◌, ◌⊎◌, ℕ, Bool, true, false, cond, eqb, eq-eqb, eqb-true, ◌||◌, List, [], ◌∷◌, ◌++◌, map, slice_get, slice_index, Some}
+use Rattle.std.proofs.Common.{bit_and, refl, ap, sym, ◌∙◌, subst, inl, inr}
 use Rattle.std.specs.List.{flat_map}
 use Rattle.std.specs.Int.{bit_at}
 use Rattle.std.proofs.lemmas.Bool.{or_cases, or_left, or_right, both_ways}
@@ -14,8 +15,9 @@ use Rattle.rule_terms.specs.declared.term.NewTerm.TheFolds.{fold-roll-NewTerm, i
 use Rattle.rule_terms.specs.Meaning.{all_ones, layer_meaning, meaning, meet_of}
 use Rattle.rule_terms.specs.Names.{names_of, layer_names, has_name, with_name, with_names}
 use Rattle.std.proofs.lemmas.Option.{none-some}
+use Rattle.shelf.proofs.Shelf.{get_push}
 use Rattle.rule_terms.specs.System.{System, terms_at, value_in, value_at, inputs_of, looked_word}
-use Rattle.rule_terms.proofs.Marked.{slice_get-push, has_name-at, same_position}
+use Rattle.rule_terms.proofs.Marked.{has_name-at, same_position}
 
 -- ---- lists of names
 -- a name of a list with more is a name of the list or of the more
@@ -52,7 +54,8 @@ with_names-keeps names (p ∷ ps) q is = with_names-keeps (with_name names p) ps
 pub with_names-has : (names more : List PosId) (q : PosId) → has_name more q ≡ true → has_name (with_names names more) q ≡ true
 with_names-has names [] q is = cc
 with_names-has names (p ∷ ps) q is = elim (or_cases (eqb q.0 p.0) (has_name ps q) is) [
-  | inl one ↦ with_names-keeps (with_name names p) ps q (subst (λ r. has_name (with_name names p) r ≡ true) (same_position p q (sym (eqb-true q.0 p.0 one))) (with_name-has names p))
+  | inl one ↦ with_names-keeps (with_name names p) ps q (subst (λ r. has_name (with_name names p) r ≡ true) (same_position p q (sym (eqb-true q.0 p.0 one)))
+      (with_name-has names p))
   | inr later ↦ with_names-has (with_name names p) ps q later
 ]
 
@@ -77,13 +80,13 @@ with_name-once names p once = by_case (has_name names p) refl where
 
   by_case : (b : Bool) → has_name names p ≡ b → StandOnce (cond b names (names ++ p ∷ []))
   by_case true is = once
-  by_case false new = λ i j q r e f same. elim (slice_get-push names p i q e) [
-    | inl first ↦ elim (slice_get-push names p j r f) [
+  by_case false new = λ i j q r e f same. elim (get_push names p q i e) [
+    | inl first ↦ elim (get_push names p r j f) [
       | inl second ↦ once i j q r first second same
-      | inr last ↦ absurd (fresh new i q first (same ∙ ap (λ (x : PosId). x.0) last.1))
+      | inr last ↦ absurd (fresh new i q first (same ∙ ap (λ (x : PosId). x.0) (sym last.1)))
     ]
-    | inr end ↦ elim (slice_get-push names p j r f) [
-      | inl second ↦ absurd (fresh new j r second (sym same ∙ ap (λ (x : PosId). x.0) end.1))
+    | inr end ↦ elim (get_push names p r j f) [
+      | inl second ↦ absurd (fresh new j r second (sym same ∙ ap (λ (x : PosId). x.0) (sym end.1)))
       | inr last ↦ end.0 ∙ sym last.0
     ]
   ]
@@ -97,14 +100,17 @@ module _ (words others : ℕ → ℕ) where
   abbrev GoesByNames : NewTerm → Type 0
   GoesByNames t = ((p : PosId) → has_name (names_of t) p ≡ true → words p.0 ≡ others p.0) → meaning words t ≡ meaning others t
 
-  names_left : (xs ys : List PosId) → ((p : PosId) → has_name (xs ++ ys) p ≡ true → words p.0 ≡ others p.0) → (p : PosId) → has_name xs p ≡ true → words p.0 ≡ others p.0
+  names_left : (xs ys : List PosId) → ((p : PosId) → has_name (xs ++ ys) p ≡ true → words p.0 ≡ others p.0) → (p : PosId) → has_name xs p ≡ true →
+      words p.0 ≡ others p.0
   names_left xs ys same p is = same p (has_name-append xs ys p ∙ or_left (has_name xs p) (has_name ys p) is)
 
-  names_right : (xs ys : List PosId) → ((p : PosId) → has_name (xs ++ ys) p ≡ true → words p.0 ≡ others p.0) → (p : PosId) → has_name ys p ≡ true → words p.0 ≡ others p.0
+  names_right : (xs ys : List PosId) → ((p : PosId) → has_name (xs ++ ys) p ≡ true → words p.0 ≡ others p.0) → (p : PosId) → has_name ys p ≡ true →
+      words p.0 ≡ others p.0
   names_right xs ys same p is = same p (has_name-append xs ys p ∙ or_right (has_name xs p) (has_name ys p) is)
 
   by_names : (x : NewTerm-F NewTerm) → (((p : PosId) → has_name (layer_names (map-NewTerm NewTerm (List PosId) names_of x)) p ≡ true → words p.0 ≡ others p.0) →
-      layer_meaning words (map-NewTerm NewTerm ℕ (meaning words) x) ≡ layer_meaning others (map-NewTerm NewTerm ℕ (meaning others) x)) → GoesByNames (roll-NewTerm x)
+      layer_meaning words (map-NewTerm NewTerm ℕ (meaning words) x) ≡ layer_meaning others (map-NewTerm NewTerm ℕ (meaning others) x)) →
+      GoesByNames (roll-NewTerm x)
   by_names x h same =
       fold-roll-NewTerm ℕ (layer_meaning words) x
       ∙ h (λ p is. same p (ap (λ names. has_name names p) (fold-roll-NewTerm (List PosId) layer_names x) ∙ is))
@@ -129,7 +135,8 @@ module _ (words others : ℕ → ℕ) where
   pub meaning-by_names : (t : NewTerm) → GoesByNames t
   meaning-by_names = ind-NewTerm GoesByNames (λ x y is. subst (λ z. GoesByNames (roll-NewTerm z)) is (layers y))
 
-  pub meet-by_names : (terms : List NewTerm) (start : ℕ) → ((p : PosId) → has_name (flat_map names_of terms) p ≡ true → words p.0 ≡ others p.0) → meet_of words start terms ≡ meet_of others start terms
+  pub meet-by_names : (terms : List NewTerm) (start : ℕ) → ((p : PosId) → has_name (flat_map names_of terms) p ≡ true → words p.0 ≡ others p.0) →
+      meet_of words start terms ≡ meet_of others start terms
   meet-by_names [] start same = refl
   meet-by_names (term ∷ terms) start same =
       ap (λ m. meet_of words (bit_and start m) terms) (meaning-by_names term (names_left (names_of term) (flat_map names_of terms) same))
@@ -148,7 +155,8 @@ pub inputs-once : (s : System) (p : ℕ) → StandOnce (inputs_of s p)
 inputs-once s p = with_names-once [] (flat_map names_of (terms_at s p)) (λ i j q r e. absurd (none-some q e))
 
 -- the words of the inputs, found again by their positions
-looked_again : (inputs : List PosId) (words : List ℕ) (p : PosId) → has_name inputs p ≡ true → slice_index words p.0 ≡ looked_word inputs (map (λ (q : PosId). slice_index words q.0) inputs) p.0
+looked_again : (inputs : List PosId) (words : List ℕ) (p : PosId) → has_name inputs p ≡ true →
+    slice_index words p.0 ≡ looked_word inputs (map (λ (q : PosId). slice_index words q.0) inputs) p.0
 looked_again [] words p is = cc
 looked_again (q ∷ qs) words p is = by_case (eqb q.0 p.0) refl (λ later. looked_again qs words p later) where
   by_case : (b : Bool) → eqb q.0 p.0 ≡ b → (has_name qs p ≡ true → slice_index words p.0 ≡ looked_word qs (map (λ (r : PosId). slice_index words r.0) qs) p.0) →
@@ -162,5 +170,6 @@ looked_again (q ∷ qs) words p is = by_case (eqb q.0 p.0) refl (λ later. looke
 -- what is left over the words of all positions is what is left over the words of the inputs
 pub value_in-value_at : (s : System) (p : ℕ) (words : List ℕ) → value_in s p words ≡ value_at s p (map (λ (q : PosId). slice_index words q.0) (inputs_of s p))
 value_in-value_at s p words =
-    meet-by_names (λ q. slice_index words q) (looked_word (inputs_of s p) (map (λ (q : PosId). slice_index words q.0) (inputs_of s p))) (terms_at s p) (slice_index s.masks p)
+    meet-by_names (λ q. slice_index words q) (looked_word (inputs_of s p) (map (λ (q : PosId). slice_index words q.0) (inputs_of s p))) (terms_at s p)
+    (slice_index s.masks p)
     (λ q is. looked_again (inputs_of s p) words q (inputs-has s p q is))

@@ -1,5 +1,6 @@
 -- Rows of inputs, and the rules that they make with the lists of places.
-use Rattle.std.proofs.Common.{◌≡◌, ℕ, zero, suc, ◌+◌, ◌<◌, List, [], ◌∷◌, ◌++◌, length, map, set, take, drop, replicate, slice_get, Some, refl, ap, sym, ◌∙◌, arith, append_assoc, append-nil, length-append, ◌-◌, Result, Ok, Err, OnErr, is_err, true}
+use Rattle.std.proofs.Common.{◌≡◌, ℕ, zero, suc, ◌+◌, ◌<◌, List, [], ◌∷◌, ◌++◌, length, map, set, take, drop, replicate, slice_get, Some, refl, ap, sym, ◌∙◌}
+use Rattle.std.proofs.Common.{arith, append_assoc, append-nil, length-append, ◌-◌, Result, Ok, Err, OnErr, is_err, true}
 use Rattle.std.specs.List.{refill}
 use Rattle.std.proofs.Math.Seq.{drop-append_seam}
 use Rattle.std.proofs.lemmas.List.{take-append-le, take_all}
@@ -13,7 +14,8 @@ use Rattle.rule_terms.specs.Pool.{IsGrown}
 
 -- ---- rules
 -- the rule of a position
-pub rule_found : {V : Type 0} (f : V → List TermId) (rows : List EdgeRow) (lists : List V) (p : ℕ) (v : V) → p < length rows → slice_get lists p ≡ Some v → slice_get (rules_of rows (map f lists)) p ≡ Some (rule_of (row_at rows p) (f v))
+pub rule_found : {V : Type 0} (f : V → List TermId) (rows : List EdgeRow) (lists : List V) (p : ℕ) (v : V) → p < length rows → slice_get lists p ≡ Some v →
+    slice_get (rules_of rows (map f lists)) p ≡ Some (rule_of (row_at rows p) (f v))
 rule_found f [] lists p v within e = absurd (omega arith)
 rule_found f (row ∷ rows) [] p v within e = cc
 rule_found f (row ∷ rows) (u ∷ us) zero v within e = ap (λ w. Some (rule_of row (f w))) (same_Some u v e)
@@ -24,7 +26,8 @@ length-rules [] lists same = refl
 length-rules (row ∷ rows) [] same = absurd (omega arith)
 length-rules (row ∷ rows) (places ∷ lists) same = ap suc (length-rules rows lists (omega arith))
 
-pub rules-set : (rows : List EdgeRow) (lists : List (List TermId)) (p : ℕ) (row : EdgeRow) (places : List TermId) → rules_of (set rows p row) (set lists p places) ≡ set (rules_of rows lists) p (rule_of row places)
+pub rules-set : (rows : List EdgeRow) (lists : List (List TermId)) (p : ℕ) (row : EdgeRow) (places : List TermId) →
+    rules_of (set rows p row) (set lists p places) ≡ set (rules_of rows lists) p (rule_of row places)
 rules-set [] lists p row places = refl
 rules-set (r ∷ rows) [] zero row places = refl
 rules-set (r ∷ rows) [] (suc p) row places = refl
@@ -38,11 +41,6 @@ empty_rule = record { inputs = []; reads = []; places = [] }
 pub rules-empty : (count : ℕ) → rules_of (replicate count empty_row) (replicate count []) ≡ replicate count empty_rule
 rules-empty zero = refl
 rules-empty (suc count) = ap (λ rs. empty_rule ∷ rs) (rules-empty count)
-
-pub replicate-at : {A : Type 0} (count : ℕ) (x : A) (k : ℕ) (y : A) → slice_get (replicate count x) k ≡ Some y → y ≡ x
-replicate-at zero x k y e = cc
-replicate-at (suc count) x zero y e = sym (same_Some x y e)
-replicate-at (suc count) x (suc k) y e = replicate-at count x k y e
 
 pub empty_row_at : (count k : ℕ) → row_at (replicate count empty_row) k ≡ empty_row
 empty_row_at zero k = refl
@@ -82,13 +80,19 @@ one_more (suc count) bits = let e : suc count + 1 ≡ suc (count + 1) = omega ar
 -- one more input of which nothing is read
 pub with_one_input : (row : EdgeRow) (more : List PosId) (p : PosId) → with_edge (with_inputs row more) p 0 ≡ with_inputs row (more ++ p ∷ [])
 with_one_input row more p =
-    rw (length-append more (p ∷ []), append_assoc row.positions more (p ∷ []), append_assoc row.bits (replicate (length more) 0) (0 ∷ []), one_more (length more) 0) refl
+    rw (
+      length-append more (p ∷ []),
+      append_assoc row.positions more (p ∷ []),
+      append_assoc row.bits (replicate (length more) 0) (0 ∷ []),
+      one_more (length more) 0,
+    ) refl
 
 pub not_widened : (rows new : List EdgeRow) (p : ℕ) → new ≡ rows → IsWidened rows new p
 not_widened rows new p same = record { more = []; is = same ∙ sym (ap (set rows p) (with_no_inputs (row_at rows p)) ∙ row_set_back rows p) }
 
 -- an input more of a row that already has some
-pub widened_more : (old rows new : List EdgeRow) (p : ℕ) (more : List PosId) (input : PosId) → p < length old → rows ≡ set old p (with_inputs (row_at old p) more) →
+pub widened_more : (old rows new : List EdgeRow) (p : ℕ) (more : List PosId) (input : PosId) → p < length old →
+    rows ≡ set old p (with_inputs (row_at old p) more) →
     new ≡ set rows p (with_edge (row_at rows p) input 0) → new ≡ set old p (with_inputs (row_at old p) (more ++ input ∷ []))
 widened_more old rows new p more input within before after =
     let here : row_at rows p ≡ with_inputs (row_at old p) more = ap (λ l. row_at l p) before ∙ row_set_same old p (with_inputs (row_at old p) more) within in
@@ -100,11 +104,14 @@ front : {A : Type 0} (n : ℕ) (xs ys : List A) → n ≡ length xs → take n (
 front n xs ys e = take-append-le n xs ys (omega arith) ∙ take_all n xs (omega arith)
 
 -- cut back to the inputs that it had, a row is as it was
-pub cut_back : (old new last : List EdgeRow) (p before : ℕ) → p < length old → IsWidened old new p → before ≡ length (row_at old p).positions → before ≡ length (row_at old p).bits → last ≡ set new p (cut_to before (row_at new p)) → last ≡ old
+pub cut_back : (old new last : List EdgeRow) (p before : ℕ) → p < length old → IsWidened old new p → before ≡ length (row_at old p).positions →
+    before ≡ length (row_at old p).bits → last ≡ set new p (cut_to before (row_at new p)) → last ≡ old
 cut_back old new last p before within widened positions bits after =
     let wide = with_inputs (row_at old p) widened.more in
     let here : row_at new p ≡ wide = ap (λ l. row_at l p) widened.is ∙ row_set_same old p wide within in
-    let row : cut_to before wide ≡ row_at old p = same_row (cut_to before wide) (row_at old p) (front before (row_at old p).positions widened.more positions) (front before (row_at old p).bits (replicate (length widened.more) 0) bits) in
+    let row : cut_to before wide ≡ row_at old p =
+    same_row (cut_to before wide) (row_at old p) (front before (row_at old p).positions widened.more positions)
+    (front before (row_at old p).bits (replicate (length widened.more) 0) bits) in
     after ∙ ap (λ l. set l p (cut_to before (row_at new p))) widened.is
     ∙ row_set_twice old p wide (cut_to before (row_at new p))
     ∙ ap (set old p) (ap (cut_to before) here ∙ row)
@@ -115,13 +122,15 @@ pub refill-all : (words new : List ℕ) → length new ≡ length words → refi
 refill-all words new same = take-append-le (length words) new (drop (length new) words) (omega arith) ∙ take_all (length words) new (omega arith)
 
 -- a row of the rows was written after another write of it
-pub rows_written : (old mid : List EdgeRow) (p : ℕ) (wide row : EdgeRow) → p < length old → mid ≡ set old p wide → set mid p row ≡ set old p (row_at (set mid p row) p)
+pub rows_written : (old mid : List EdgeRow) (p : ℕ) (wide row : EdgeRow) → p < length old → mid ≡ set old p wide →
+    set mid p row ≡ set old p (row_at (set mid p row) p)
 rows_written old mid p wide row within is =
     let once : set mid p row ≡ set old p row = ap (λ l. set l p row) is ∙ row_set_twice old p wide row in
     once ∙ ap (set old p) (sym (ap (λ l. row_at l p) once ∙ row_set_same old p row within))
 
 pub row_written : (old mid : List EdgeRow) (p : ℕ) (wide row : EdgeRow) → p < length old → mid ≡ set old p wide → row_at (set mid p row) p ≡ row
-row_written old mid p wide row within is = ap (λ l. row_at (set l p row) p) is ∙ ap (λ l. row_at l p) (row_set_twice old p wide row) ∙ row_set_same old p row within
+row_written old mid p wide row within is = ap (λ l. row_at (set l p row) p) is ∙ ap (λ l. row_at l p) (row_set_twice old p wide row) ∙
+    row_set_same old p row within
 
 -- a list that goes on is the list before and the rest of it
 pub rest_behind : {A : Type 0} (xs ys rest : List A) (n : ℕ) → IsGrown xs ys → n ≡ length xs → rest ≡ take (length ys - n) (drop n ys) → ys ≡ xs ++ rest

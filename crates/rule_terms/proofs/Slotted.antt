@@ -1,5 +1,6 @@
 -- Terms in slots: what a slot says stays as slots and inputs are added.
-use Rattle.std.proofs.Common.{◌≡◌, ℕ, zero, suc, ◌+◌, ◌<◌, ◌≤◌, true, ◌&&◌, List, [], ◌∷◌, ◌++◌, length, slice_get, Some, refl, ap, sym, ◌∙◌, subst, arith, append_assoc, length-append, nat_lt}
+use Rattle.std.proofs.Common.{◌≡◌, ℕ, zero, suc, ◌+◌, ◌<◌, ◌≤◌, true, ◌&&◌, List, [], ◌∷◌, ◌++◌, length, slice_get, Some, refl, ap, sym, ◌∙◌, subst, arith}
+use Rattle.std.proofs.Common.{append_assoc, length-append, nat_lt}
 use Rattle.std.specs.List.{fold}
 use Rattle.std.proofs.lemmas.Bool.{and_parts, and_from, ltb-true, lt-ltb}
 use Rattle.std.proofs.lemmas.List.{get_or_append_left}
@@ -9,7 +10,8 @@ use Rattle.attr_ids.specs.declared.ids.PosId.{PosId}
 use Rattle.rule_terms.specs.declared.term.Term.{Term}
 use Rattle.rule_terms.specs.declared.term.Term.TheVariants as slot
 use Rattle.std.proofs.lemmas.Option.{same_Some}
-use Rattle.rule_terms.specs.Slots.{Numbered, const, word, both, either, unless, shift, keep_align, spread, nth, slot_term, slot_terms, named, input_at, is_numbered, AreOrdered, IsBehind}
+use Rattle.rule_terms.specs.Slots.{Numbered, const, word, both, either, unless, shift, keep_align, spread, nth, slot_term, slot_terms, named, input_at}
+use Rattle.rule_terms.specs.Slots.{is_numbered, AreOrdered, IsBehind}
 
 abbrev with_slot : List Numbered → Term → List Numbered
 with_slot terms slot = terms ++ slot_term terms slot ∷ []
@@ -43,7 +45,8 @@ nth-grown slots more place l =
 pub nth-pushed : (slots : List Term) (slot : Term) → nth (slot_terms (slots ++ slot ∷ [])) (length slots) ≡ slot_term (slot_terms slots) slot
 nth-pushed slots slot =
     ap (λ terms. nth terms (length slots)) (slot_terms-push slots slot)
-    ∙ subst (λ n. nth (slot_terms slots ++ slot_term (slot_terms slots) slot ∷ []) n ≡ slot_term (slot_terms slots) slot) (length-slot_terms slots) (get_or-append_seam (slot_terms slots) (slot_term (slot_terms slots) slot) [] (const 0))
+    ∙ subst (λ n. nth (slot_terms slots ++ slot_term (slot_terms slots) slot ∷ []) n ≡ slot_term (slot_terms slots) slot) (length-slot_terms slots)
+    (get_or-append_seam (slot_terms slots) (slot_term (slot_terms slots) slot) [] (const 0))
 
 below_more : (number m n : ℕ) → m ≤ n → nat_lt number m ≡ true → nat_lt number n ≡ true
 below_more number m n l is = lt-ltb number n (omega (arith, ltb-true number m is))
@@ -61,7 +64,8 @@ is_numbered-more m n l (either left right) is =
 is_numbered-more m n l (unless input bit then') is =
     let outer = and_parts (nat_lt input m && nat_lt bit 64) (is_numbered m then') is in
     let inner = and_parts (nat_lt input m) (nat_lt bit 64) outer.0 in
-    and_from (nat_lt input n && nat_lt bit 64) (is_numbered n then') (and_from (nat_lt input n) (nat_lt bit 64) (below_more input m n l inner.0) inner.1) (is_numbered-more m n l then' outer.1)
+    and_from (nat_lt input n && nat_lt bit 64) (is_numbered n then') (and_from (nat_lt input n) (nat_lt bit 64) (below_more input m n l inner.0) inner.1)
+    (is_numbered-more m n l then' outer.1)
 is_numbered-more m n l (shift bytes of) is = is_numbered-more m n l of is
 is_numbered-more m n l (keep_align step of) is = is_numbered-more m n l of is
 is_numbered-more m n l (spread bit to of) is =
@@ -92,13 +96,15 @@ named-grown inputs more (spread bit to of) is =
     rw (named-grown inputs more of parts.1) refl
 
 -- a list around one of its elements
-split_at : {A : Type 0} (xs : List A) (k : ℕ) (x : A) → slice_get xs k ≡ Some x → (front : List A) × (back : List A) × (length front ≡ k) × (xs ≡ (front ++ x ∷ []) ++ back)
+split_at : {A : Type 0} (xs : List A) (k : ℕ) (x : A) → slice_get xs k ≡ Some x → (front : List A) × (back : List A) × (length front ≡ k) ×
+    (xs ≡ (front ++ x ∷ []) ++ back)
 split_at [] k x e = cc
 split_at (y ∷ ys) zero x e = ([], ys, refl, ap (λ z. z ∷ ys) (same_Some y x e))
 split_at (y ∷ ys) (suc k) x e = let rest = split_at ys k x e in (y ∷ rest.0, rest.1, ap suc rest.2, ap (λ l. y ∷ l) rest.3)
 
 -- a slot that stands behind its parts says the same over the slots before it as over all
-slot_term-grown : (slots more : List Term) (slot : Term) → IsBehind (length slots) slot → slot_term (slot_terms (slots ++ more)) slot ≡ slot_term (slot_terms slots) slot
+slot_term-grown : (slots more : List Term) (slot : Term) → IsBehind (length slots) slot →
+    slot_term (slot_terms (slots ++ more)) slot ≡ slot_term (slot_terms slots) slot
 slot_term-grown slots more (slot.Const bits) behind = refl
 slot_term-grown slots more (slot.Word number) behind = refl
 slot_term-grown slots more (slot.And left right) behind = rw (nth-grown slots more left.0 behind.0, nth-grown slots more right.0 behind.1) refl
@@ -109,7 +115,8 @@ slot_term-grown slots more (slot.KeepAlign step of) behind = rw (nth-grown slots
 slot_term-grown slots more (slot.Spread bit to of) behind = rw (nth-grown slots more of.0 behind) refl
 
 -- the term at a place is that of its slot
-pub nth-slot : (slots : List Term) (place : ℕ) (slot : Term) → AreOrdered slots → slice_get slots place ≡ Some slot → nth (slot_terms slots) place ≡ slot_term (slot_terms slots) slot
+pub nth-slot : (slots : List Term) (place : ℕ) (slot : Term) → AreOrdered slots → slice_get slots place ≡ Some slot →
+    nth (slot_terms slots) place ≡ slot_term (slot_terms slots) slot
 nth-slot slots place slot ordered is =
     let parts = split_at slots place slot is in
     let front : List Term = parts.0 in
@@ -122,4 +129,5 @@ nth-slot slots place slot ordered is =
     ∙ nth-pushed front slot
     ∙ sym (slot_term-grown front (slot ∷ [] ++ back) slot behind)
     ∙ ap (λ l. slot_term (slot_terms l) slot) (sym (append_assoc front (slot ∷ []) back)) in
-    subst (λ k. nth (slot_terms slots) k ≡ slot_term (slot_terms slots) slot) parts.2 (subst (λ l. nth (slot_terms l) (length front) ≡ slot_term (slot_terms l) slot) (sym whole) first)
+    subst (λ k. nth (slot_terms slots) k ≡ slot_term (slot_terms slots) slot) parts.2
+    (subst (λ l. nth (slot_terms l) (length front) ≡ slot_term (slot_terms l) slot) (sym whole) first)

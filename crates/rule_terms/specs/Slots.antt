@@ -1,5 +1,6 @@
 -- How a system keeps its terms: each part of a term in a slot of one list, behind its own parts.
-use Rattle.std.specs.Prelude.{◌≡◌, ℕ, ◌<◌, ◌==◌, ◌&&◌, Bool, true, nat_lt, if◌then◌else◌, bit_and, bit_or, List, [], ◌∷◌, ◌++◌, fold, length, slice_get, slice_index_or, Some}
+use Rattle.std.specs.Prelude.{◌≡◌, ℕ, ◌<◌, ◌==◌, ◌&&◌, Bool, true, nat_lt, if◌then◌else◌, bit_and, bit_or, List, [], ◌∷◌, ◌++◌, fold, length, slice_get}
+use Rattle.std.specs.Prelude.{slice_index_or, Some}
 use Rattle.std.specs.Int.{bit_at}
 use Rattle.lattice_words.specs.Ladders.{shift_of, keep_align_of}
 use Rattle.attr_ids.specs.declared.ids.PosId.{PosId}

@@ -11,7 +11,8 @@ ghost use Rattle.rule_terms.specs.declared.term.NewTerm.{NewTerm};
 
 /// The value of a position that a term is met into becomes its And with what the term gives.
 pub fn meet_is_and()
-    ensures { (s : System) (p : ℕ) (term : NewTerm) (word : ℕ → ℕ) → p < length s.terms → value (with_term s p term) p word ≡ bit_and (value s p word) (meaning word term) }
+    ensures { (s : System) (p : ℕ) (term : NewTerm) (word : ℕ → ℕ) → p < length s.terms →
+        value (with_term s p term) p word ≡ bit_and (value s p word) (meaning word term) }
 {}
 
 /// A term that is met into one position changes the value of no other.

@@ -70,7 +70,8 @@ fn put_met(
     ensures goes_on { GoesOn pool.old pool.new }
     ensures rows { OnOk result (rows.new ≡ slice_set rows.old p.0 (row_at rows.new p.0)) }
     ensures opened { OnOk result (pool.new.inputs.items ≡ (row_at rows.new p.0).positions) }
-    ensures met { OnOk result (Met pool.new.slots.items mask (rule_of (row_at rows.old p.0) places.old.items) (rule_of (row_at rows.new p.0) places.new.items) term.now) }
+    ensures met { OnOk result (Met pool.new.slots.items mask (rule_of (row_at rows.old p.0) places.old.items) (rule_of (row_at rows.new p.0) places.new.items)
+        term.now) }
     ensures widened { OnErr result (IsWidened rows.old rows.new p.0) }
     ensures places { OnErr result (places.new.items ≡ places.old.items) }
 {
@@ -99,7 +100,8 @@ pub(crate) fn meet_in(
     ensures pool { GoesOnSlots pool.old pool.new }
     ensures opened { pool.new.inputs.items ≡ (row_at rows.new p.0).positions }
     ensures rows { rows.new ≡ slice_set rows.old p.0 (row_at rows.new p.0) }
-    ensures met { OnOk result (Met pool.new.slots.items mask (rule_of (row_at rows.old p.0) places.old.items) (rule_of (row_at rows.new p.0) places.new.items) term.now) }
+    ensures met { OnOk result (Met pool.new.slots.items mask (rule_of (row_at rows.old p.0) places.old.items) (rule_of (row_at rows.new p.0) places.new.items)
+        term.now) }
     ensures err { OnErr result (rows.new ≡ rows.old) }
     ensures places { OnErr result (places.new.items ≡ places.old.items) }
 {

@@ -6,6 +6,7 @@ use Rattle.std.specs.Prelude.{codes}
 use Rattle.std.specs.List.{flat_map}
 use Rattle.std.specs.List.Sorted.{IsNonDecreasingBy}
 use Rattle.std.proofs.lemmas.List.{map-append, get_or-map, length-map}
+use Rattle.slice_text.proofs.Places.{afters}
 use Rattle.attr_ids.specs.declared.insertion.Insertion.{Insertion}
 use Rattle.attr_ids.specs.declared.insertion.Place.{Place}
 use Rattle.attr_ids.specs.declared.insertion.Place.TheVariants as place
@@ -48,9 +49,6 @@ sub_rise low n xs (y ∷ ys) s r = elim s [
 
 abbrev offsets : List Insertion → List ℕ
 offsets xs = map (λ x. x.at) xs
-
-abbrev afters : List Mention → List ℕ
-afters ms = map (λ m. m.after) ms
 
 word_sub : (p : Place) (m : Mention) (h : Bool) → Sub (offsets (word_at p m h)) (m.after ∷ [])
 word_sub p m h = elim (h && not m.nounwind) as (λ v.

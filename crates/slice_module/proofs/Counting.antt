@@ -3,12 +3,13 @@
 use Rattle.std.proofs.Common.{◌≡◌, ℕ, suc, ◌+◌, ◌*◌, ◌≤◌, List, [], ◌∷◌, ◌++◌, length, map, Option, None, Some, refl, ap, arith, length-append}
 use Rattle.std.specs.List.{flat_map}
 use Rattle.std.proofs.lemmas.List.{length-map}
+use Rattle.slice_text.proofs.Places.{gap_moves}
 use Rattle.slice_text.specs.declared.token.Symbol.TheVariants as symbol
 use Rattle.slice_text.specs.declared.token.Token.{Token}
 use Rattle.slice_text.specs.declared.entity.Mention.{Mention}
 use Rattle.slice_text.specs.declared.entity.Body.{Body}
 use Rattle.slice_text.specs.declared.entity.Entity.{Entity}
-use Rattle.slice_text.specs.Tokens.{Reaches, past_gap}
+use Rattle.slice_text.specs.Tokens.{Reaches}
 use Rattle.slice_text.specs.Entities.{Mark, leaf_of, word_leaves, mention_leaves, call_leaves, block_leaves, linkage_leaves, written, entity_leaves, Reads}
 use Rattle.slice_text.specs.Places.{calls_of, mentions}
 use Rattle.slice_module.specs.declared.module.Block.{Block}
@@ -16,10 +17,6 @@ use Rattle.slice_module.specs.declared.module.Func.{Func}
 use Rattle.slice_module.specs.Module.{written_body, entity_of}
 use Rattle.slice_module.specs.Tables.{block_count_of, seg_count_of, runs_of, segs_of, entries_from, runs_from, segs_from}
 use Rattle.slice_module.proofs.Tables.{segs_long}
-
-gap_moves : (b : List ℕ) (i : ℕ) → i ≤ past_gap b i
-unfolding past_gap
-gap_moves b i = omega arith
 
 -- each token takes a byte
 tokens_fit : (b : List ℕ) (at to : ℕ) (ts : List Token) → Reaches b at ts to → at + length ts ≤ to

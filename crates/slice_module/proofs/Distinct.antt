@@ -1,8 +1,10 @@
 -- Lists of texts in which none stands twice.
-use Rattle.std.proofs.Common.{◌≡◌, ℕ, zero, suc, ◌<◌, true, false, ◌||◌, List, [], ◌∷◌, ◌++◌, length, Some, refl, sym, ap, subst, ◌∙◌, arith, inl, inr, ◌⊎◌}
+use Rattle.std.proofs.Common.{◌≡◌, ℕ, zero, suc, true, false, ◌||◌, List, [], ◌∷◌, ◌++◌, length, Some, refl, sym, ap, subst, ◌∙◌, arith, inl, inr}
 use Rattle.std.specs.List.{list_any, slice_get}
 use Rattle.std.specs.Str.{bytes_eq}
 use Rattle.std.proofs.lemmas.Slice.Eq.{bytes_eq-Decides}
+use Rattle.std.proofs.lemmas.Option.{slice_get_within}
+use Rattle.shelf.proofs.Shelf.{get_kept, get_behind, get_push}
 use Rattle.slice_module.specs.Names.{AreDistinct}
 
 -- a text that is found stands somewhere
@@ -25,36 +27,14 @@ stands_not x (y ∷ ys) h (suc i) e = elim (bytes_eq x y) as (λ v. (v || list_a
   | false ↦ λ f. stands_not x ys f i e
 ] h
 
--- a place is in the list
-pub place_within : (xs : List (List ℕ)) (i : ℕ) (x : List ℕ) → slice_get xs i ≡ Some x → i < length xs
-place_within [] i x e = absurd (cc)
-place_within (y ∷ ys) zero x e = omega arith
-place_within (y ∷ ys) (suc i) x e = omega (arith, place_within ys i x e)
-
--- what stands in a longer list stands in the list or is the last
-pub last_or : (xs : List (List ℕ)) (y x : List ℕ) (i : ℕ) → slice_get (xs ++ y ∷ []) i ≡ Some x → (slice_get xs i ≡ Some x) ⊎ ((i ≡ length xs) × (y ≡ x))
-last_or [] y x zero e = inr (refl, cc)
-last_or [] y x (suc i) e = absurd (cc)
-last_or (z ∷ zs) y x zero e = inl e
-last_or (z ∷ zs) y x (suc i) e = elim (last_or zs y x i e) [ inl h ↦ inl h | inr h ↦ inr (ap suc h.0, h.1) ]
-
-pub stays : (xs ys : List (List ℕ)) (i : ℕ) (x : List ℕ) → slice_get xs i ≡ Some x → slice_get (xs ++ ys) i ≡ Some x
-stays [] ys i x e = absurd (cc)
-stays (z ∷ zs) ys zero x e = e
-stays (z ∷ zs) ys (suc i) x e = stays zs ys i x e
-
-pub last_stands : (xs : List (List ℕ)) (y : List ℕ) (zs : List (List ℕ)) → slice_get (xs ++ y ∷ zs) (length xs) ≡ Some y
-last_stands [] y zs = refl
-last_stands (x ∷ xs) y zs = last_stands xs y zs
-
 pub distinct_push : (xs : List (List ℕ)) (y : List ℕ) → AreDistinct xs → list_any (bytes_eq y) xs ≡ false → AreDistinct (xs ++ y ∷ [])
 distinct_push xs y d none i j x e f =
-    elim (last_or xs y x i e) [
-      | inl left ↦ elim (last_or xs y x j f) [
+    elim (get_push xs y x i e) [
+      | inl left ↦ elim (get_push xs y x j f) [
         | inl right ↦ d i j x left right
         | inr right ↦ absurd (stands_not y xs none i (subst (λ z. slice_get xs i ≡ Some z) (sym right.1) left))
       ]
-      | inr left ↦ elim (last_or xs y x j f) [
+      | inr left ↦ elim (get_push xs y x j f) [
         | inl right ↦ absurd (stands_not y xs none j (subst (λ z. slice_get xs j ≡ Some z) (sym left.1) right))
         | inr right ↦ left.0 ∙ sym right.0
       ]
@@ -64,6 +44,6 @@ distinct_push xs y d none i j x e f =
 pub not_distinct : (xs : List (List ℕ)) (y : List ℕ) (zs : List (List ℕ)) → list_any (bytes_eq y) xs ≡ true → AreDistinct (xs ++ y ∷ zs) → ⊥
 not_distinct xs y zs is d =
     let there = stands y xs is in
-    let same = d there.0 (length xs) y (stays xs (y ∷ zs) there.0 y there.1) (last_stands xs y zs) in
-    let within = place_within xs there.0 y there.1 in
+    let same = d there.0 (length xs) y (get_kept xs (y ∷ zs) there.0 y there.1) (get_behind xs y zs) in
+    let within = slice_get_within xs there.0 y there.1 in
     absurd (omega arith)

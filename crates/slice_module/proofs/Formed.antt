@@ -3,7 +3,7 @@ use Rattle.std.proofs.Common.{◌≡◌, ℕ, zero, suc, ◌+◌, ◌-◌, ◌<�
 use Rattle.std.proofs.Common.{ap, subst, ◌∙◌, arith, All}
 use Rattle.std.specs.Option.{option_map}
 use Rattle.std.proofs.lemmas.List.{length-map}
-use Rattle.std.proofs.lemmas.Option.{slice_get_within, get_or_from_slice_get}
+use Rattle.std.proofs.lemmas.Option.{slice_get_within, get_or_from_slice_get, same_Some}
 use Rattle.attr_ids.specs.declared.ids.TypeId.{TypeId}
 use Rattle.ir_types.specs.declared.ir_type.IrType.{IrType}
 use Rattle.ir_types.specs.declared.ir_type.IrType.TheVariants.{Void, Ptr}
@@ -27,9 +27,6 @@ use Rattle.slice_module.proofs.Single.{mentions_length}
 use Rattle.slice_module.proofs.Counting.{few_mentions, entries_long, few_runs, few_segs}
 use Rattle.slice_module.proofs.Tables.{block_at, seg_at, entry_of_func, run_of_func, seg_of_func, Located, located, LocatedRun, located_run, runs_follow, shape}
 
-some_is : {A : Type 0} {x y : A} → Some x ≡ Some y → x ≡ y
-some_is e = cc
-
 pub all_at : {A : Type 0} (P : A → Type 0) (xs : List A) (k : ℕ) (x : A) → slice_get xs k ≡ Some x → All P xs → P x
 all_at P xs k x e all = subst P (get_or_from_slice_get xs k x x e) (all k x (slice_get_within xs k x e))
 
@@ -42,7 +39,7 @@ entry_is b fs f entry e = by (slice_get fs f) refl
     by None at = absurd (let none : None ≡ Some entry = sym (entry_of_func b 0 fs f ∙ ap (option_map (entry_at b (block_at 0 fs f))) at) ∙ e in cc)
     by (Some g) at =
         let found : Some entry ≡ Some (entry_at b (block_at 0 fs f) g) = sym e ∙ entry_of_func b 0 fs f ∙ ap (option_map (entry_at b (block_at 0 fs f))) at in
-        (g, at, some_is found)
+        (g, at, same_Some _ _ found)
 
 block_in : (fs : List Func) (f i j : ℕ) (g : Func) (found : Option Block) → slice_get fs f ≡ Some g → g.body ≡ found → j ≡ block_at 0 fs f →
     j ≤ i → i < j + block_count_of found → (b : Run) × (slice_get (runs_from 0 0 fs) i ≡ Some b) × (b.func.0 ≡ f)
@@ -56,7 +53,7 @@ module _ (m : Module) where
       (at : LocatedRun 0 m.funcs i) × (run ≡ run_of (0 + at.f) (seg_at 0 m.funcs at.f) at.b)
   run_at i run e =
       let at = located_run 0 0 0 m.funcs i run e in
-      (at, some_is (sym e ∙ run_of_func 0 0 0 m.funcs at.f i at.g at.b at.is at.body at.place))
+      (at, same_Some _ _ (sym e ∙ run_of_func 0 0 0 m.funcs at.f i at.g at.b at.is at.body at.place))
 
   -- a segment of a body at its place
   seg_there : (f j at : ℕ) (g : Func) (b : Block) → slice_get m.funcs f ≡ Some g → g.body ≡ Some b → j < length b.calls + 1 → at ≡ seg_at 0 m.funcs f + j →
@@ -78,8 +75,8 @@ module _ (m : Module) where
       let l = located 0 0 m.funcs at seg e in
       let same = seg_there l.f l.j at l.g l.b l.is l.body l.within (omega (arith, l.place)) in
       elim (shape (block_at 0 m.funcs l.f) l.b l.j l.within) [
-        | inl call ↦ record { place = l; does = call_instr call.0; is = some_is (sym e ∙ same ∙ call.2); kind = inl (call.0, call.1, refl) }
-        | inr ret ↦ record { place = l; does = ret_instr; is = some_is (sym e ∙ same ∙ ret.1); kind = inr (ret.0, refl) }
+        | inl call ↦ record { place = l; does = call_instr call.0; is = same_Some _ _ (sym e ∙ same ∙ call.2); kind = inl (call.0, call.1, refl) }
+        | inr ret ↦ record { place = l; does = ret_instr; is = same_Some _ _ (sym e ∙ same ∙ ret.1); kind = inr (ret.0, refl) }
       ]
 
   -- the block of a segment
@@ -95,7 +92,7 @@ module _ (m : Module) where
   one_instr at i seg instr t found = by i (subst (λ (s : Seg). slice_get s.instrs i ≡ Some instr) t.is found)
     where
       by : (i : ℕ) → slice_get (t.does ∷ []) i ≡ Some instr → (i ≡ 0) × (instr ≡ t.does)
-      by zero e = (refl, sym (some_is e))
+      by zero e = (refl, sym (same_Some _ _ e))
       by (suc i) e = absurd (cc)
 
   one_long : (at : ℕ) (seg : Seg) (t : There at seg) → length seg.instrs ≡ 1
@@ -133,12 +130,12 @@ module _ (m : Module) where
     where
       names : (k : ℕ) (w : Written) → slice_get (callee_at c ∷ []) k ≡ Some w → IsType (resolved b m) w.ty × IsOperandIn (resolved b m) f w.val
       names zero w e =
-          subst (λ (w : Written). IsType (resolved b m) w.ty × IsOperandIn (resolved b m) f w.val) (some_is e)
+          subst (λ (w : Written). IsType (resolved b m) w.ty × IsOperandIn (resolved b m) f w.val) (same_Some _ _ e)
           (omega arith, omega (arith, within, entries_long b 0 m.funcs))
       names (suc k) w e = absurd (cc)
 
       types : (k : ℕ) (t : TypeId) → slice_get (void ∷ []) k ≡ Some t → IsType (resolved b m) t
-      types zero t e = subst (IsType (resolved b m)) (some_is e) (omega arith)
+      types zero t e = subst (IsType (resolved b m)) (same_Some _ _ e) (omega arith)
       types (suc k) t e = absurd (cc)
 
   ret_in : (b : List ℕ) (f : ℕ) → IsInstrIn (resolved b m) f ret_instr
@@ -187,8 +184,8 @@ module _ (m : Module) where
       })
 
   no_parts : (b : List ℕ) (t : ℕ) (type : IrType) → slice_get (Void ∷ Ptr ∷ []) t ≡ Some type → IsTypeFormed (resolved b m) t type
-  no_parts b zero type e = subst (IsTypeFormed (resolved b m) 0) (some_is e) (λ part has. absurd (let none : None ≡ Some part = has.1 in cc))
-  no_parts b (suc zero) type e = subst (IsTypeFormed (resolved b m) 1) (some_is e) (λ part has. absurd (let none : None ≡ Some part = has.1 in cc))
+  no_parts b zero type e = subst (IsTypeFormed (resolved b m) 0) (same_Some _ _ e) (λ part has. absurd (let none : None ≡ Some part = has.1 in cc))
+  no_parts b (suc zero) type e = subst (IsTypeFormed (resolved b m) 1) (same_Some _ _ e) (λ part has. absurd (let none : None ≡ Some part = has.1 in cc))
   no_parts b (suc (suc t)) type e = absurd (cc)
 
   has_few : (b : List ℕ) → length b < 2 ^ 31 → Accepted b m → HasFew (resolved b m)

@@ -3,6 +3,8 @@ use Rattle.std.proofs.Common.{◌≡◌, ℕ, zero, suc, ◌+◌, ◌-◌, ◌<�
 use Rattle.std.proofs.Common.{sym, ap, subst, ◌∙◌, arith}
 use Rattle.std.specs.Option.{option_map}
 use Rattle.std.proofs.lemmas.Bool.{cases_lt}
+use Rattle.std.proofs.lemmas.Option.{same_Some}
+use Rattle.shelf.proofs.Shelf.{get_left, get_right}
 use Rattle.ir_module.specs.declared.module.Seg.{Seg}
 use Rattle.ir_module.specs.declared.module.Block.{Block as Run}
 use Rattle.slice_module.specs.declared.module.Call.{Call}
@@ -10,17 +12,6 @@ use Rattle.slice_module.specs.declared.module.Block.{Block}
 use Rattle.slice_module.specs.declared.module.Func.{Func}
 use Rattle.slice_module.specs.Tables.{call_instr, ret_instr, segment, block_count_of, seg_count_of, entry_at, run_of, runs_of, block_segs, segs_of}
 use Rattle.slice_module.specs.Tables.{entries_from, runs_from, segs_from}
-
--- ---- places of a list that was put together of two
-pub get_left : {A : Type 0} (xs ys : List A) (j : ℕ) → j < length xs → slice_get (xs ++ ys) j ≡ slice_get xs j
-get_left [] ys j l = absurd (omega arith)
-get_left (x ∷ xs) ys zero l = refl
-get_left (x ∷ xs) ys (suc j) l = get_left xs ys j (omega arith)
-
-pub get_right : {A : Type 0} (xs ys : List A) (k n : ℕ) → k ≡ length xs + n → slice_get (xs ++ ys) k ≡ slice_get ys n
-get_right [] ys k n e = ap (slice_get ys) (omega arith)
-get_right (x ∷ xs) ys zero n e = absurd (omega arith)
-get_right (x ∷ xs) ys (suc k) n e = get_right xs ys k n (omega arith)
 
 -- ---- how many blocks and segments stand before function number f
 pub block_at : ℕ → List Func → ℕ → ℕ
@@ -62,11 +53,8 @@ entry_of_func b i [] (suc f) = refl
 entry_of_func b i (g ∷ fs) zero = refl
 entry_of_func b i (g ∷ fs) (suc f) = entry_of_func b (i + block_count_of g.body) fs f
 
-some_is : {A : Type 0} {x y : A} → Some x ≡ Some y → x ≡ y
-some_is e = cc
-
 body_of : (h g : Func) (b : Block) → Some h ≡ Some g → g.body ≡ Some b → h.body ≡ Some b
-body_of h g b e body = ap (λ (x : Func). x.body) (some_is e) ∙ body
+body_of h g b e body = ap (λ (x : Func). x.body) (same_Some _ _ e) ∙ body
 
 run_first : (n k at : ℕ) (found : Option Block) (b : Block) (rest : List Run) → found ≡ Some b → at ≡ 0 →
     slice_get (runs_of n k found ++ rest) at ≡ Some (run_of n k b)
@@ -189,7 +177,7 @@ first_run n k (h ∷ fs) next e = by h.body e (first_run (n + 1) (k + seg_count_
     by : (found : Option Block) → slice_get (runs_of n k found ++ runs_from (n + 1) (k + seg_count_of found) fs) 0 ≡ Some next →
         (slice_get (runs_from (n + 1) (k + seg_count_of found) fs) 0 ≡ Some next → FirstRun (n + 1) (k + seg_count_of found) next) → FirstRun n k next
     by None e rest = let later = rest e in (omega (arith, later.0), omega (arith, later.1))
-    by (Some b) e rest = let same : run_of n k b ≡ next = some_is e in
+    by (Some b) e rest = let same : run_of n k b ≡ next = same_Some _ _ e in
         (omega (arith, ap (λ (r : Run). r.func.0) same), ap (λ (r : Run). r.first_seg) (sym same))
 
 abbrev Follows : Run → Run → Type 0
@@ -206,7 +194,7 @@ runs_follow n k (h ∷ fs) at run next e more = by h.body at e more (λ at. runs
         slice_get (runs_from (n + 1) (k + seg_count_of found) fs) (at + 1) ≡ Some next → Follows run next) → Follows run next
     by None at e more rest = rest at e more
     by (Some b) zero e more rest =
-        let same : run_of n k b ≡ run = some_is e in
+        let same : run_of n k b ≡ run = same_Some _ _ e in
         let first = first_run (n + 1) (k + (length b.calls + 1)) fs next more in
         let number = ap (λ (r : Run). r.func.0) same in
         let from = ap (λ (r : Run). r.first_seg) same in
@@ -243,5 +231,5 @@ call_shape i b j c e = by b.calls j e
   where
     by : (cs : List Call) (j : ℕ) → slice_get cs j ≡ Some c → slice_get (segs_for i cs) j ≡ Some (segment i (call_instr c))
     by [] j e = absurd (cc)
-    by (d ∷ cs) zero e = ap (λ x. Some (segment i (call_instr x))) (some_is e)
+    by (d ∷ cs) zero e = ap (λ x. Some (segment i (call_instr x))) (same_Some _ _ e)
     by (d ∷ cs) (suc j) e = by cs j e

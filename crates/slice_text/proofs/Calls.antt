@@ -12,7 +12,8 @@ pub record Running (ls : List Leaf) (i : ℕ) (calls : List Mention) (n : ℕ) :
   pub within : n ≤ length ls
   pub fits : drop i ls ≡ flat_map call_leaves calls ++ drop n ls
   pub only : (us : List Mention) (rest : List Leaf) → drop i ls ≡ flat_map call_leaves us ++ rest →
-      BeginsNot symbol.Call rest → BeginsNot symbol.Nounwind rest → (more : List Mention) × (us ≡ calls ++ more) × (drop n ls ≡ flat_map call_leaves more ++ rest)
+      BeginsNot symbol.Call rest → BeginsNot symbol.Nounwind rest → (more : List Mention) × (us ≡ calls ++ more) ×
+      (drop n ls ≡ flat_map call_leaves more ++ rest)
 
 pub running_first : (ls : List Leaf) (i : ℕ) → i ≤ length ls → Running ls i [] i
 running_first ls i l = record { moves = omega arith; within = l; fits = refl; only = λ us rest e no' none. (us, refl, e) }
@@ -35,7 +36,8 @@ goes_on ls n k calls us c rest t no' none (x ∷ xs) e d =
     let same = t.only x (flat_map call_leaves xs ++ rest) (d ∙ append_assoc (call_leaves x) (flat_map call_leaves xs) rest) (no_word xs rest none) in
     (xs, e ∙ ap (λ y. calls ++ y ∷ xs) (sym same.0) ∙ sym (append_assoc calls (c ∷ []) xs), same.1)
 
-pub running_next : (ls : List Leaf) (i n k : ℕ) (calls : List Mention) (c : Mention) → Running ls i calls n → Takes call_leaves ls n c k → Running ls i (calls ++ c ∷ []) k
+pub running_next : (ls : List Leaf) (i n k : ℕ) (calls : List Mention) (c : Mention) → Running ls i calls n → Takes call_leaves ls n c k →
+    Running ls i (calls ++ c ∷ []) k
 running_next ls i n k calls c r t = record {
   moves = omega (arith, r.moves, t.moves);
   within = t.within;

@@ -8,7 +8,8 @@ use Rattle.slice_text.proofs.Stand.{same_token}
 abbrev pub Stop : List ℕ → ℕ → Type 0
 Stop b i = (t : Token) → IsTokenAt b i t → ⊥
 
-pub reaches_push : (b : List ℕ) (a : ℕ) (ts : List Token) (i : ℕ) (t : Token) → Reaches b a ts i → IsTokenAt b i t → Reaches b a (ts ++ t ∷ []) (past_gap b t.span.to)
+pub reaches_push : (b : List ℕ) (a : ℕ) (ts : List Token) (i : ℕ) (t : Token) → Reaches b a ts i → IsTokenAt b i t →
+    Reaches b a (ts ++ t ∷ []) (past_gap b t.span.to)
 reaches_push b a [] i t e h = (subst (λ n. IsTokenAt b n t) e h, refl)
 reaches_push b a (x ∷ xs) i t r h = (r.0, reaches_push b x.span.to xs i t r.1 h)
 

@@ -82,14 +82,17 @@ nothing = record { symbol = symbol.Declare; span = record { from = 0; to = 0 } }
 abbrev pub token_of : List Token → ℕ → Token
 token_of ts i = get_or ts i nothing
 
-pub mark_step : (ts : List Token) (i : ℕ) (k : Symbol) → i < length ts → (token_of ts i).symbol ≡ k → is_plain k ≡ true → drop i (leaves ts) ≡ Mark k ∷ drop (i + 1) (leaves ts)
+pub mark_step : (ts : List Token) (i : ℕ) (k : Symbol) → i < length ts → (token_of ts i).symbol ≡ k → is_plain k ≡ true →
+    drop i (leaves ts) ≡ Mark k ∷ drop (i + 1) (leaves ts)
 mark_step ts i k l is plain = leaf_step ts i nothing l
     ∙ ap (λ x. x ∷ drop (i + 1) (leaves ts)) (ap (λ j. leaf_at j (token_of ts i).span) is ∙ plain_leaf k (token_of ts i).span plain)
 
-pub name_step : (ts : List Token) (i : ℕ) → i < length ts → (token_of ts i).symbol ≡ symbol.Global → drop i (leaves ts) ≡ Name (token_of ts i).span ∷ drop (i + 1) (leaves ts)
+pub name_step : (ts : List Token) (i : ℕ) → i < length ts → (token_of ts i).symbol ≡ symbol.Global →
+    drop i (leaves ts) ≡ Name (token_of ts i).span ∷ drop (i + 1) (leaves ts)
 name_step ts i l is = leaf_step ts i nothing l ∙ ap (λ j. leaf_at j (token_of ts i).span ∷ drop (i + 1) (leaves ts)) is
 
-pub close_step : (ts : List Token) (i : ℕ) → i < length ts → (token_of ts i).symbol ≡ symbol.RightParen → drop i (leaves ts) ≡ Closed (token_of ts i).span.to ∷ drop (i + 1) (leaves ts)
+pub close_step : (ts : List Token) (i : ℕ) → i < length ts → (token_of ts i).symbol ≡ symbol.RightParen →
+    drop i (leaves ts) ≡ Closed (token_of ts i).span.to ∷ drop (i + 1) (leaves ts)
 close_step ts i l is = leaf_step ts i nothing l ∙ ap (λ j. leaf_at j (token_of ts i).span ∷ drop (i + 1) (leaves ts)) is
 
 -- the leaf that stands in front is that of the token there

@@ -32,7 +32,8 @@ mention_takes ls i n m moves within fits apart = record {
   only = λ u rest e no'. mention_same m u (drop n ls) rest (sym fits ∙ e) apart no';
 }
 
-pub call_takes : (ls : List Leaf) (i n : ℕ) (m : Mention) → drop i ls ≡ Mark symbol.Call ∷ drop (i + 1) ls → Takes mention_leaves ls (i + 1) m n → Takes call_leaves ls i m n
+pub call_takes : (ls : List Leaf) (i n : ℕ) (m : Mention) → drop i ls ≡ Mark symbol.Call ∷ drop (i + 1) ls → Takes mention_leaves ls (i + 1) m n →
+    Takes call_leaves ls i m n
 call_takes ls i n m first t = record {
   moves = omega (arith, t.moves);
   within = t.within;

@@ -1,5 +1,6 @@
 -- Pieces of a text, and how far a run of one class goes in them.
-use Rattle.std.proofs.Common.{◌≡◌, ℕ, zero, suc, ◌+◌, ◌-◌, ◌<◌, ◌≤◌, Bool, true, false, List, [], ◌∷◌, length, take, drop, slice_index, refl, arith, ◌&&◌, if◌then◌else◌, add-one, drop-cons, length-drop}
+use Rattle.std.proofs.Common.{◌≡◌, ℕ, zero, suc, ◌+◌, ◌-◌, ◌<◌, ◌≤◌, Bool, true, false, List, [], ◌∷◌, length, take, drop, slice_index, refl, arith, ◌&&◌}
+use Rattle.std.proofs.Common.{if◌then◌else◌, add-one, drop-cons, length-drop}
 use Rattle.std.specs.List.{prefix_len, list_all}
 use Rattle.std.proofs.lemmas.List.Sums.{prefix_len-drop_yes, prefix_len-le-length}
 use Rattle.slice_text.specs.Tokens.{piece}

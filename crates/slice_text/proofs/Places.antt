@@ -11,7 +11,8 @@ use Rattle.slice_text.specs.declared.entity.Mention.{Mention}
 use Rattle.slice_text.specs.declared.entity.Body.{Body}
 use Rattle.slice_text.specs.declared.entity.Entity.{Entity}
 use Rattle.slice_text.specs.Tokens.{Reaches, past_gap}
-use Rattle.slice_text.specs.Entities.{Leaf, Mark, Name, Closed, leaf_at, leaf_of, word_leaves, mention_leaves, call_leaves, block_leaves, linkage_leaves, written, entity_leaves, Reads}
+use Rattle.slice_text.specs.Entities.{Leaf, Mark, Name, Closed, leaf_at, leaf_of, word_leaves, mention_leaves, call_leaves, block_leaves, linkage_leaves}
+use Rattle.slice_text.specs.Entities.{written, entity_leaves, Reads}
 use Rattle.slice_text.specs.Places.{calls_of, mentions, RiseWithin, ClosesRise, IsSpanIn, NamesWithin}
 
 -- a list of leaves whose spans are of a text of n bytes, those of closing parentheses one after another
@@ -27,7 +28,8 @@ placed_lower n low less (Mark k ∷ ls) l p = placed_lower n low less ls l p
 placed_lower n low less (Name span ∷ ls) l p = (p.0, placed_lower n low less ls l p.1)
 placed_lower n low less (Closed end ∷ ls) l p = (omega (arith, p.0), p.1, p.2)
 
-one_placed : (n low : ℕ) (k : Symbol) (span : Span) (ls : List Leaf) → low ≤ span.from → span.from < span.to → span.to ≤ n → Placed n span.to ls → Placed n low (leaf_at k span ∷ ls)
+one_placed : (n low : ℕ) (k : Symbol) (span : Span) (ls : List Leaf) → low ≤ span.from → span.from < span.to → span.to ≤ n → Placed n span.to ls →
+    Placed n low (leaf_at k span ∷ ls)
 one_placed n low symbol.Global span ls l m w p = ((omega arith, w), placed_lower n span.to low ls (omega arith) p)
 one_placed n low symbol.RightParen span ls l m w p = (omega arith, w, p)
 one_placed n low symbol.Declare span ls l m w p = placed_lower n span.to low ls (omega arith) p
@@ -42,7 +44,8 @@ one_placed n low symbol.LeftParen span ls l m w p = placed_lower n span.to low l
 one_placed n low symbol.LeftBrace span ls l m w p = placed_lower n span.to low ls (omega arith) p
 one_placed n low symbol.RightBrace span ls l m w p = placed_lower n span.to low ls (omega arith) p
 
-gap_moves : (b : List ℕ) (i : ℕ) → i ≤ past_gap b i
+-- a gap does not go back
+pub gap_moves : (b : List ℕ) (i : ℕ) → i ≤ past_gap b i
 unfolding past_gap
 gap_moves b i = omega arith
 
@@ -71,7 +74,8 @@ IsPlaced n low m ls = IsSpanIn n m.name × (low < m.after) × (m.after ≤ n) ×
 mention_placed : (n low : ℕ) (m : Mention) (ls : List Leaf) → Placed n low (mention_leaves m ++ ls) → IsPlaced n low m ls
 mention_placed n low m ls p = (p.0, p.1.0, p.1.1, word_placed n m.after m.nounwind ls p.1.2)
 
-abbrev afters : List Mention → List ℕ
+-- the offsets behind mentions
+abbrev pub afters : List Mention → List ℕ
 afters ms = map (λ m. m.after) ms
 
 -- the last of these offsets, or `low` where there is none

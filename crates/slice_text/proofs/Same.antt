@@ -59,7 +59,8 @@ written_same h k None None x y e no' none =
 written_same h k None (Some d) x y e no' none = absurd (cc)
 written_same h k (Some b) None x y e no' none = absurd (cc)
 written_same h k (Some b) (Some d) x y e no' none =
-    let inner : (linkage_leaves b.internal ++ (mention_leaves h ++ block_leaves b.calls)) ++ x ≡ (linkage_leaves d.internal ++ (mention_leaves k ++ block_leaves d.calls)) ++ y = cc in
+    let inner : (linkage_leaves b.internal ++ (mention_leaves h ++ block_leaves b.calls)) ++ x ≡
+    (linkage_leaves d.internal ++ (mention_leaves k ++ block_leaves d.calls)) ++ y = cc in
     let left = append_assoc (linkage_leaves b.internal) (mention_leaves h ++ block_leaves b.calls) x
     ∙ ap (λ xs. linkage_leaves b.internal ++ xs) (append_assoc (mention_leaves h) (block_leaves b.calls) x) in
     let right = append_assoc (linkage_leaves d.internal) (mention_leaves k ++ block_leaves d.calls) y
@@ -78,7 +79,8 @@ entities_same [] [] e = refl
 entities_same [] (u ∷ us) e = absurd (no_entity u.header u.body (flat_map entity_leaves us) e)
 entities_same (x ∷ es) [] e = absurd (no_entity x.header x.body (flat_map entity_leaves es) (sym e))
 entities_same (x ∷ es) (u ∷ us) e =
-    let first = written_same x.header u.header x.body u.body (flat_map entity_leaves es) (flat_map entity_leaves us) e (entities.no_word es) (entities.no_word us) in
+    let first = written_same x.header u.header x.body u.body (flat_map entity_leaves es) (flat_map entity_leaves us) e (entities.no_word es)
+    (entities.no_word us) in
     let rest = entities_same es us first.1 in
     λ i. first.0 i ∷ rest i
 

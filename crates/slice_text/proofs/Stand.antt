@@ -1,5 +1,6 @@
 -- Which token stands at a place, by its first byte.
-use Rattle.std.proofs.Common.{◌≡◌, ℕ, ◌+◌, ◌-◌, ◌<◌, ◌≤◌, ◌==◌, Bool, true, false, List, [], ◌∷◌, length, slice_index, refl, sym, subst, ◌∙◌, arith, ◌||◌, Option, Some, None, inl, inr}
+use Rattle.std.proofs.Common.{◌≡◌, ℕ, ◌+◌, ◌-◌, ◌<◌, ◌≤◌, ◌==◌, Bool, true, false, List, [], ◌∷◌, length, slice_index, refl, sym, subst, ◌∙◌, arith, Option}
+use Rattle.std.proofs.Common.{Some, None, inl, inr}
 use Rattle.std.specs.Prelude.{if◌then◌else◌}
 use Rattle.std.specs.Str.{bytes_eq}
 use Rattle.std.specs.Prelude.{codes}
@@ -7,16 +8,14 @@ use Rattle.std.specs.List.{list_all}
 use Rattle.std.specs.Char.{is_ascii_digit}
 use Rattle.std.proofs.lemmas.Bool.Decides.{nat_tests}
 use Rattle.std.proofs.lemmas.Bool.{cases_lt}
+use Rattle.std.proofs.Math.Bool.{or-false}
 use Rattle.slice_text.specs.declared.token.Symbol.{Symbol}
 use Rattle.slice_text.specs.declared.token.Symbol.TheVariants as symbol
 use Rattle.slice_text.specs.declared.token.Token.{Token}
-use Rattle.slice_text.specs.Tokens.{piece, is_word_start, is_word, is_name_start, is_name, is_name_text, keyword_of, bracket_of, lone_bracket, symbol_of, IsToken, IsTokenAt}
+use Rattle.slice_text.specs.Tokens.{piece, is_word_start, is_word, is_name_start, is_name, is_name_text, keyword_of, bracket_of, lone_bracket, symbol_of}
+use Rattle.slice_text.specs.Tokens.{IsToken, IsTokenAt}
 use Rattle.slice_text.specs.Runs.{past, EndsName}
 use Rattle.slice_text.proofs.Pieces.{within_run, beyond_run, past_step, past_within, piece_cons}
-
-or_false : (v : Bool) → (v || false) ≡ v
-or_false true = refl
-or_false false = refl
 
 -- the symbol of a text whose first byte begins a word
 word_symbol : (c : ℕ) (z : List ℕ) → is_word_start c ≡ true → list_all is_word z ≡ true → symbol_of (c ∷ z) ≡ Some (keyword_of (c ∷ z))
@@ -27,7 +26,8 @@ no_word_symbol c d z is no' =
     let apart : (c == 64) ≡ false = grind (arith, nat_tests) in
     rw (is, no', apart) refl
 
-pub word_token : (b : List ℕ) (i : ℕ) → i < length b → is_word_start (slice_index b i) ≡ true → IsToken b i (keyword_of (piece b i (past is_word b i))) (past is_word b i)
+pub word_token : (b : List ℕ) (i : ℕ) → i < length b → is_word_start (slice_index b i) ≡ true →
+    IsToken b i (keyword_of (piece b i (past is_word b i))) (past is_word b i)
 word_token b i l is =
     let inner : is_word (slice_index b i) ≡ true = grind (arith, nat_tests) in
     let step = past_step is_word b i l inner in
@@ -69,7 +69,7 @@ word_stands b i t l is from to k = record {
 digits_name : (c : ℕ) (z : List ℕ) → is_ascii_digit c ≡ true → is_name_text (c ∷ z) ≡ list_all is_ascii_digit z
 digits_name c z is =
     let apart : is_name_start c ≡ false = grind (arith, nat_tests) in
-    rw (is, apart) (or_false (list_all is_ascii_digit z))
+    rw (is, apart) (or-false (list_all is_ascii_digit z))
 
 letters_name : (c : ℕ) (z : List ℕ) → is_ascii_digit c ≡ false → is_name_start c ≡ true → is_name_text (c ∷ z) ≡ list_all is_name z
 letters_name c z no' is = rw (no', is) refl
@@ -87,7 +87,8 @@ digits_end b i l is =
           (beyond_run is_ascii_digit b (i + 1) f (omega arith) fits);
     }
 
-pub letters_end : (b : List ℕ) (i : ℕ) → i < length b → is_ascii_digit (slice_index b i) ≡ false → is_name_start (slice_index b i) ≡ true → EndsName b i (past is_name b i)
+pub letters_end : (b : List ℕ) (i : ℕ) → i < length b → is_ascii_digit (slice_index b i) ≡ false → is_name_start (slice_index b i) ≡ true →
+    EndsName b i (past is_name b i)
 letters_end b i l no' is =
     let inner : is_name (slice_index b i) ≡ true = grind (arith, nat_tests) in
     let step = past_step is_name b i l inner in

@@ -1,5 +1,6 @@
 -- Declarations and definitions that fit from one place, and that no others do.
-use Rattle.std.proofs.Common.{◌≡◌, ℕ, ◌+◌, ◌<◌, ◌≤◌, Bool, true, false, List, [], ◌∷◌, ◌++◌, length, drop, Option, None, Some, refl, sym, ap, ◌∙◌, arith, append_assoc}
+use Rattle.std.proofs.Common.{◌≡◌, ℕ, ◌+◌, ◌<◌, ◌≤◌, Bool, true, false, List, [], ◌∷◌, ◌++◌, length, drop, Option, None, Some, refl, sym, ap, ◌∙◌, arith}
+use Rattle.std.proofs.Common.{append_assoc}
 use Rattle.std.specs.List.{flat_map}
 use Rattle.std.proofs.lemmas.List.{append-nil, flat_map_more, drop_all, length-drop}
 use Rattle.slice_text.specs.declared.token.Symbol.TheVariants as symbol
@@ -13,7 +14,8 @@ abbrev make : Mention → Option Body → Entity
 make header body = record { header = header; body = body }
 
 declared_only : (ls : List Leaf) (i n : ℕ) (m : Mention) → drop i ls ≡ Mark symbol.Declare ∷ drop (i + 1) ls → Takes mention_leaves ls (i + 1) m n →
-    (h : Mention) (b : Option Body) (rest : List Leaf) → drop i ls ≡ written h b ++ rest → BeginsNot symbol.Nounwind rest → (make m None ≡ make h b) × (drop n ls ≡ rest)
+    (h : Mention) (b : Option Body) (rest : List Leaf) → drop i ls ≡ written h b ++ rest → BeginsNot symbol.Nounwind rest → (make m None ≡ make h b) ×
+    (drop n ls ≡ rest)
 declared_only ls i n m first t h None rest e none =
     let same = t.only h rest (cc) none in (λ k. make (same.0 k) None, same.1)
 declared_only ls i n m first t h (Some b) rest e none = absurd (cc)
@@ -32,7 +34,8 @@ declared_none : (ls : List Leaf) (i : ℕ) → drop i ls ≡ Mark symbol.Declare
 declared_none ls i first t h None rest e none = t h rest (cc) none
 declared_none ls i first t h (Some b) rest e none = cc
 
-pub declared_takes_none : (ls : List Leaf) (i : ℕ) → drop i ls ≡ Mark symbol.Declare ∷ drop (i + 1) ls → TakesNone mention_leaves ls (i + 1) → TakesNone entity_leaves ls i
+pub declared_takes_none : (ls : List Leaf) (i : ℕ) → drop i ls ≡ Mark symbol.Declare ∷ drop (i + 1) ls → TakesNone mention_leaves ls (i + 1) →
+    TakesNone entity_leaves ls i
 declared_takes_none ls i first t u rest e none = declared_none ls i first t u.header u.body rest e none
 
 linkage_same : (ls : List Leaf) (i n : ℕ) (b d : Bool) (h : Mention) (rest : List Leaf) → TakesLinkage ls i b n →
@@ -72,12 +75,14 @@ defined_takes ls i j k n b m calls first l t s = record {
   moves = omega (arith, l.moves, t.moves, s.moves);
   within = s.within;
   fits = first ∙ ap (λ xs. Mark symbol.Define ∷ xs)
-      (l.fits ∙ ap (λ xs. linkage_leaves b ++ xs) (t.fits ∙ ap (λ xs. mention_leaves m ++ xs) s.fits ∙ sym (append_assoc (mention_leaves m) (block_leaves calls) (drop n ls)))
+      (l.fits ∙ ap (λ xs. linkage_leaves b ++ xs) (t.fits ∙ ap (λ xs. mention_leaves m ++ xs) s.fits ∙
+      sym (append_assoc (mention_leaves m) (block_leaves calls) (drop n ls)))
       ∙ sym (append_assoc (linkage_leaves b) (mention_leaves m ++ block_leaves calls) (drop n ls)));
   only = λ u rest e none. defined_only ls i j k n b m calls first l t s u.header u.body rest e none;
 }
 
-no_header : (ls : List Leaf) (i j : ℕ) (b : Bool) → drop i ls ≡ Mark symbol.Define ∷ drop (i + 1) ls → TakesLinkage ls (i + 1) b j → TakesNone mention_leaves ls j →
+no_header : (ls : List Leaf) (i j : ℕ) (b : Bool) → drop i ls ≡ Mark symbol.Define ∷ drop (i + 1) ls → TakesLinkage ls (i + 1) b j →
+    TakesNone mention_leaves ls j →
     (h : Mention) (d : Option Body) (rest : List Leaf) → drop i ls ≡ written h d ++ rest → ⊥
 no_header ls i j b first l t h None rest e = cc
 no_header ls i j b first l t h (Some d) rest e = t h (block_leaves d.calls ++ rest) (defined_rest ls i j b first l h d rest e).1 (λ r x. cc)
@@ -94,7 +99,8 @@ no_body ls i j k b m first l t s h (Some d) rest e none =
     let header = t.only h (block_leaves d.calls ++ rest) (defined_rest ls i j b first l h d rest e).1 (λ r x. cc) in
     s d.calls rest header.1 none
 
-pub no_body_takes_none : (ls : List Leaf) (i j k : ℕ) (b : Bool) (m : Mention) → drop i ls ≡ Mark symbol.Define ∷ drop (i + 1) ls → TakesLinkage ls (i + 1) b j →
+pub no_body_takes_none : (ls : List Leaf) (i j k : ℕ) (b : Bool) (m : Mention) → drop i ls ≡ Mark symbol.Define ∷ drop (i + 1) ls →
+    TakesLinkage ls (i + 1) b j →
     Takes mention_leaves ls j m k → TakesNone block_leaves ls k → TakesNone entity_leaves ls i
 no_body_takes_none ls i j k b m first l t s u rest e none = no_body ls i j k b m first l t s u.header u.body rest e none
 

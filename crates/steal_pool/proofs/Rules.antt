@@ -1,5 +1,6 @@
 -- Each move keeps the rule of a deque of hints.
-use Rattle.std.proofs.Common.{◌≡◌, ℕ, zero, suc, ◌+◌, ◌<◌, ◌≤◌, All, List, [], ◌∷◌, ◌++◌, length, set, refl, sym, ap, ◌∙◌, subst, ⊎_elim, inl, inr, Result, Ok, Err, IfErr, arith}
+use Rattle.std.proofs.Common.{◌≡◌, ℕ, zero, suc, ◌+◌, ◌<◌, ◌≤◌, All, List, [], ◌∷◌, ◌++◌, length, set, refl, sym, ap, ◌∙◌, subst, ⊎_elim, inl, inr, Result, Ok}
+use Rattle.std.proofs.Common.{Err, IfErr, arith}
 use mathlib.Core.Option.{some, some-ne-none}
 use lib.ListN.{get_elem?}
 use lib.Seq.{take-append_seam, drop-append_seam}
@@ -55,7 +56,8 @@ back : (n : ℕ) (xs ys : List PosId) → All (IsBelow n) (xs ++ ys) → All (Is
 back n xs ys h = subst (All (IsBelow n)) (drop-append_seam xs ys) (All-drop (IsBelow n) (length xs) (xs ++ ys) h)
 
 -- a worker that knows its deque to be in use is right
-used : (port : ℕ) (v : Log) → v.stage ≡ Used → (items : List PosId) (views : List Log) → Hints items views → get_elem? views port ≡ some v → (n : ℕ) × Each (IsUsed n) views × All (IsBelow n) items
+used : (port : ℕ) (v : Log) → v.stage ≡ Used → (items : List PosId) (views : List Log) → Hints items views → get_elem? views port ≡ some v → (n : ℕ) ×
+    Each (IsUsed n) views × All (IsBelow n) items
 used port v is items views h at = ⊎_elim (λ new. absurd (made_used (stage_of _ v views port new.1 at ∙ is)))
     (λ other. ⊎_elim (λ bounding. absurd (bounding_used (stage_of _ v views port bounding.2 at ∙ is))) (λ done. done) other) h
 
@@ -63,14 +65,24 @@ pub gives : (port : ℕ) (v : Log) (p : PosId) → v.stage ≡ Used → p.0 < v.
 gives port v p is below items views h at =
     let now = used port v is items views h at in
     let mine = now.1 port v at in
-    let small : IsBelow now.0 p = subst (λ n. p.0 < n) mine.0 below in
-    (gave v (p ∷ []), inr (inr (now.0, each_set (IsUsed now.0) views port (gave v (p ∷ [])) mine now.1, All-append (IsBelow now.0) items (p ∷ []) now.2 (All-cons (IsBelow now.0) p [] small (All-nil (IsBelow now.0))))), refl)
+    let small : IsBelow now.0 p = subst (λ n. p.0 < n) mine.0 below in (
+      gave v (p ∷ []),
+      inr (inr (
+        now.0,
+        each_set (IsUsed now.0) views port (gave v (p ∷ [])) mine now.1,
+        All-append (IsBelow now.0) items (p ∷ []) now.2 (All-cons (IsBelow now.0) p [] small (All-nil (IsBelow now.0))),
+      )),
+      refl,
+    )
 
 pub takes : (port : ℕ) (v : Log) → v.stage ≡ Used → tasks.Takes Hints port v 1 (Takes v)
 takes port v is xs items views _ _ h at =
     let now = used port v is (xs ++ items) views h at in
-    let mine = now.1 port v at in
-    (took v xs, inr (inr (now.0, each_set (IsUsed now.0) views port (took v xs) mine now.1, back now.0 xs items now.2)), (refl, subst (λ n. All (IsBelow n) xs) (sym mine.0) (front now.0 xs items now.2)))
+    let mine = now.1 port v at in (
+      took v xs,
+      inr (inr (now.0, each_set (IsUsed now.0) views port (took v xs) mine now.1, back now.0 xs items now.2)),
+      (refl, subst (λ n. All (IsBelow n) xs) (sym mine.0) (front now.0 xs items now.2)),
+    )
 
 pub shares : (port : ℕ) (v : Log) → v.stage ≡ Used → tasks.Forks Hints port v v (log v.count v.stage [] [])
 shares port v is items views h at =
@@ -88,7 +100,8 @@ bounds port v p is items views h at =
     let w : Log = log p.0 Bounding [] [] in
     let told : Bounds v (p ∷ []) w = (p, refl, refl) in
     ⊎_elim (λ new. (w, inr (inl (p, ap (λ xs. xs ++ p ∷ []) new.0, set_alone _ v w views port new.1 at)), told))
-    (λ other. ⊎_elim (λ bounding. absurd (made_bounding (sym is ∙ sym (stage_of _ v views port bounding.2 at)))) (λ done. absurd (made_used (sym is ∙ (done.1 port v at).1))) other) h
+    (λ other. ⊎_elim (λ bounding. absurd (made_bounding (sym is ∙ sym (stage_of _ v views port bounding.2 at)))) (λ done. absurd (made_used (sym is ∙
+    (done.1 port v at).1))) other) h
 
 one_left : (xs items : List PosId) (n : PosId) → 0 < length xs → xs ++ items ≡ n ∷ [] → items ≡ []
 one_left [] items n more is = absurd (omega arith)
@@ -100,7 +113,18 @@ frees port v is xs items views more _ h at =
     let w : Log = log v.count Used [] [] in
     ⊎_elim (λ new. absurd (made_bounding (stage_of _ v views port new.1 at ∙ is)))
     (λ other. ⊎_elim
-    (λ bounding. (w, inr (inr (v.count, subst (Each (IsUsed v.count)) (sym (set_alone _ v w views port bounding.2 at)) (each_one (IsUsed v.count) w (refl, refl)), subst (All (IsBelow v.count)) (sym (one_left xs items bounding.0 more bounding.1)) (All-nil (IsBelow v.count)))), refl))
+    (λ bounding. (
+      w,
+      inr (inr (
+        v.count,
+        subst (Each (IsUsed v.count)) (sym (set_alone _ v w views port bounding.2 at)) (each_one (IsUsed v.count) w (
+          refl,
+          refl,
+        )),
+        subst (All (IsBelow v.count)) (sym (one_left xs items bounding.0 more bounding.1)) (All-nil (IsBelow v.count)),
+      )),
+      refl,
+    ))
     (λ done. absurd (bounding_used (sym is ∙ (done.1 port v at).1))) other) h
 
 pub frees_one : (port : ℕ) (v : Log) → v.stage ≡ Bounding → tasks.Finds Hints port v ⊥
@@ -109,7 +133,8 @@ frees_one port v is views h at =
     (λ other. ⊎_elim (λ bounding. absurd (cc bounding.1)) (λ done. bounding_used (sym is ∙ (done.1 port v at).1)) other) h
 
 -- a push that found room is not refused
-pub kept : {A : Type 0} (r : Result A PosId) (P : Type 0) (F : PosId → Type 0) (capacity index given : ℕ) → MatchResult r (λ _. P) F → IfErr r (λ _. capacity ≤ index)
+pub kept : {A : Type 0} (r : Result A PosId) (P : Type 0) (F : PosId → Type 0) (capacity index given : ℕ) → MatchResult r (λ _. P) F →
+    IfErr r (λ _. capacity ≤ index)
     → 64 ≤ capacity → index ≤ given + 1 → given + 1 < 64 → P
 kept (Ok u) P F capacity index given h full slots room few = h
 kept (Err p) P F capacity index given h full slots room few = absurd (omega (arith, full))

@@ -40,7 +40,8 @@ IsUsed n v = (v.count ≡ n) × (v.stage ≡ Used)
 
 -- the rule: the deque is new; or it holds the bound alone; or every position in it is below the bound, which all workers know
 abbrev pub Hints : List PosId → List Log → Type 0
-Hints items views = ((items ≡ []) × (views ≡ log 0 Made [] [] ∷ [])) ⊎ (((n : PosId) × (items ≡ n ∷ []) × (views ≡ log n.0 Bounding [] [] ∷ [])) ⊎ ((n : ℕ) × Each (IsUsed n) views × All (IsBelow n) items))
+Hints items views = ((items ≡ []) × (views ≡ log 0 Made [] [] ∷ [])) ⊎ (((n : PosId) × (items ≡ n ∷ []) × (views ≡ log n.0 Bounding [] [] ∷ [])) ⊎ ((n : ℕ) ×
+    Each (IsUsed n) views × All (IsBelow n) items))
 
 -- the log of a worker that has given and taken nothing yet
 abbrev pub fresh : ℕ → Log

@@ -1,10 +1,10 @@
 -- What a table needs when it is opened.
-use Rattle.std.proofs.Common.{◌≡◌, ◌⊎◌, ℕ, zero, suc, ◌+◌, ◌%◌, ◌^◌, ◌<◌, ◌≤◌, List, [], ◌∷◌, ◌++◌, length, map, take, slice_index, slice_get, Some, bit_or, refl, ap, sym, ◌∙◌, subst, arith, inl, inr, add-one}
+use Rattle.std.proofs.Common.{◌≡◌, ℕ, zero, suc, ◌+◌, ◌%◌, ◌^◌, ◌<◌, ◌≤◌, List, [], ◌∷◌, ◌++◌, length, map, take, slice_index, Some, bit_or, ap, sym, ◌∙◌}
+use Rattle.std.proofs.Common.{subst, arith, add-one}
 use mathlib.Core.Option.{some, some-injective, some-ne-none}
 use lib.ListN.{get_elem?}
 use Rattle.std.proofs.lemmas.List.Sums.{get_or-le-sum_by}
 use Rattle.std.proofs.lemmas.List.Elements.{All-get_or}
-use Rattle.std.proofs.lemmas.Option.{same_Some, none-some}
 use Rattle.attr_ids.specs.declared.ids.PosId.{PosId}
 use Rattle.lattice_words.specs.declared.word.TheConstants.{DIRTY}
 use Rattle.rule_terms.specs.Slots.{input_at}
@@ -26,11 +26,13 @@ rows_read s g of p l = (of.rows (position p) l).long
 
 pub rows_few : (s : System) (g : List Row) → IsGraphOf s g → (p : ℕ) → p < length s.masks → length (row_at g p).dependents < 2 ^ 32
 rows_few s g of p l =
-    let one : length (row_at g p).dependents ≤ edge_count g = get_or-le-sum_by (λ (row : Row). length row.dependents) g p empty_row (let long = of.long in omega (arith, l, long)) in
+    let one : length (row_at g p).dependents ≤ edge_count g = get_or-le-sum_by (λ (row : Row). length row.dependents) g p empty_row (let long = of.long in
+    omega (arith, l, long)) in
     let few = of.few in omega (arith, one, few)
 
 -- ---- the words at the opening
-opening_next : (workers k : ℕ) (masks : List ℕ) (p : ℕ) → p < length masks → opening_words workers k (take (suc p) masks) ≡ opening_words workers k (take p masks) ++ dirtied (slice_index masks p) ((k + p) % workers) ∷ []
+opening_next : (workers k : ℕ) (masks : List ℕ) (p : ℕ) → p < length masks →
+    opening_words workers k (take (suc p) masks) ≡ opening_words workers k (take p masks) ++ dirtied (slice_index masks p) ((k + p) % workers) ∷ []
 opening_next workers k [] p l = absurd (omega arith)
 opening_next workers k (m ∷ ms) zero l = (let e : k ≡ k + 0 = omega arith in ap (λ x. dirtied m (x % workers) ∷ []) e)
 opening_next workers k (m ∷ ms) (suc p) l =
@@ -54,9 +56,11 @@ most_least f (suc n) m h = (let rest = most_least f n m (λ p l. h p (omega (ari
 
 pub inputs_room : (k : Key) (s : System) (m : ℕ) → k.system.value ≡ s → ((p : ℕ) → p < length s.masks → length (inputs_of s p) ≤ m) → most_inputs (Some k) ≤ m
 unfolding most_inputs
-inputs_room k s m is h = most_least (λ p. length (inputs_of k.system.value p)) (length k.system.value.masks) m (subst (λ (x : System). (p : ℕ) → p < length x.masks → length (inputs_of x p) ≤ m) (sym is) h)
+inputs_room k s m is h = most_least (λ p. length (inputs_of k.system.value p)) (length k.system.value.masks) m (subst (λ (x : System). (p : ℕ) →
+    p < length x.masks → length (inputs_of x p) ≤ m) (sym is) h)
 
-pub dependents_room : (k : Key) (s : System) (g : List Row) (m : ℕ) → k.system.value ≡ s → k.graph.value ≡ g → ((p : ℕ) → p < length s.masks → length (row_at g p).dependents ≤ m) → most_dependents (Some k) ≤ m
+pub dependents_room : (k : Key) (s : System) (g : List Row) (m : ℕ) → k.system.value ≡ s → k.graph.value ≡ g →
+    ((p : ℕ) → p < length s.masks → length (row_at g p).dependents ≤ m) → most_dependents (Some k) ≤ m
 unfolding most_dependents
 dependents_room k s g m is are h =
     most_least (λ p. length (row_at k.graph.value p).dependents) (length k.system.value.masks) m
@@ -70,10 +74,3 @@ facts_next (x ∷ xs) (suc p) word e = ap (λ ys. facts_of x ∷ ys) (facts_next
 
 pub facts_more : (xs : List ℕ) (p word : ℕ) → get_elem? xs p ≡ some word → map facts_of (take p xs) ++ facts_of word ∷ [] ≡ map facts_of (take (p + 1) xs)
 facts_more xs p word e = sym (facts_next xs p word e) ∙ ap (λ n. map facts_of (take n xs)) (sym (add-one p))
-
--- an entry of a list with one more at its end
-pub entry_push : {A : Type 0} (xs : List A) (y z : A) (i : ℕ) → slice_get (xs ++ y ∷ []) i ≡ Some z → (slice_get xs i ≡ Some z) ⊎ ((i ≡ length xs) × (y ≡ z))
-entry_push [] y z zero e = inr (refl, same_Some y z e)
-entry_push [] y z (suc i) e = absurd (none-some z e)
-entry_push (x ∷ xs) y z zero e = inl e
-entry_push (x ∷ xs) y z (suc i) e = elim (entry_push xs y z i e) [ inl old ↦ inl old | inr new ↦ inr (ap suc new.0, new.1) ]

@@ -1,8 +1,9 @@
 -- Splitting a seat and joining one keep the rule of the table, and a table opens with it.
-use Rattle.std.proofs.Common.{◌≡◌, ◌≢◌, ◌⊎◌, ℕ, zero, suc, ◌+◌, ◌-◌, ◌<◌, ◌≤◌, ◌&&◌, Bool, true, false, List, [], ◌∷◌, ◌++◌, map, length, replicate, set, slice_index, slice_get, Option, Some, Contains, refl, ap, sym, ◌∙◌, subst, arith, inl, inr}
+use Rattle.std.proofs.Common.{◌≡◌, ◌≢◌, ◌⊎◌, ℕ, zero, suc, ◌+◌, ◌-◌, ◌<◌, ◌≤◌, ◌&&◌, true, List, [], ◌∷◌, ◌++◌, map, length, replicate, set, slice_index}
+use Rattle.std.proofs.Common.{slice_get, Option, Some, Contains, refl, ap, sym, ◌∙◌, subst, arith, inl, inr}
 use mathlib.Core.Option.{some, some-injective, some-ne-none}
 use lib.ListN.{get_elem?}
-use Rattle.std.proofs.lemmas.Bool.{cases_eq, cases_lt}
+use Rattle.std.proofs.lemmas.Bool.{cases_eq, cases_lt, and_parts}
 use Rattle.std.proofs.lemmas.Nat.Bits.{bit_at_above}
 use Rattle.std.proofs.lemmas.List.{length-set, length_push, set_comm, get_or_past}
 use Rattle.std.proofs.lemmas.List.Elements.{All-nil, All-cons, All-weaker, All-contains}
@@ -42,9 +43,11 @@ at_push (x ∷ xs) a b zero e = inl e
 at_push (x ∷ xs) a b (suc i) e = elim (at_push xs a b i e) [ inl old ↦ inl old | inr new ↦ inr (ap suc new.0, new.1) ]
 
 -- a view was written whose core seat is the same
-same_core : (workers : ℕ) (views : List View) (i : ℕ) (v w : View) → get_elem? views i ≡ some v → w.core ≡ v.core → seats_of workers views ≡ seats_of workers (set views i w)
+same_core : (workers : ℕ) (views : List View) (i : ℕ) (v w : View) → get_elem? views i ≡ some v → w.core ≡ v.core →
+    seats_of workers views ≡ seats_of workers (set views i w)
 same_core workers views i v w at core =
-    sym (same_entry (seats_of workers views) i v.core (seats_at workers views i v at)) ∙ ap (λ c. set (seats_of workers views) i c) (sym core) ∙ seats_set workers views i w (at_inside views i v at)
+    sym (same_entry (seats_of workers views) i v.core (seats_at workers views i v at)) ∙ ap (λ c. set (seats_of workers views) i c) (sym core) ∙
+    seats_set workers views i w (at_inside views i v at)
 
 -- ---- a new table
 pub opens : (k : Key) → IsSystem k.system.value → IsGraphOf k.system.value k.graph.value → 0 < k.workers → k.workers ≤ 16 →
@@ -69,11 +72,15 @@ opens k is of some_worker few = record {
   one_seat (suc n) h = (let e : n ≡ suc n - 1 = omega arith in ap (λ m. new_seat ∷ replicate m new_seat) e)
 
   alone : (i : ℕ) (v : View) → get_elem? (first_view k ∷ []) i ≡ some v → (v ≡ spent) ⊎ ((v.about ≡ Some k) × (v.number ≡ i))
-  alone zero v e = inr (ap (λ (u : View). u.about) (sym (some-injective (first_view k) v e)), ap (λ (u : View). u.number) (sym (some-injective (first_view k) v e)))
+  alone zero v e = inr (
+    ap (λ (u : View). u.about) (sym (some-injective (first_view k) v e)),
+    ap (λ (u : View). u.number) (sym (some-injective (first_view k) v e)),
+  )
   alone (suc i) v e = absurd (some-ne-none v (sym e))
 
 -- ---- splitting
-module _ (k : Key) (t : State (Unit {0}) View) (r : IsRuled k t) (v : View) (at : get_elem? t.views 0 ≡ some v) (about : v.about ≡ Some k) (room : v.made < k.workers) where
+module _ (k : Key) (t : State (Unit {0}) View) (r : IsRuled k t) (v : View) (at : get_elem? t.views 0 ≡ some v) (about : v.about ≡ Some k)
+    (room : v.made < k.workers) where
   head_is : IsHead k r.core.words t.views v
   head_is = subst (IsHead k r.core.words t.views) (same_at t.views 0 r.head v r.first at) r.heads
 
@@ -116,11 +123,13 @@ module _ (k : Key) (t : State (Unit {0}) View) (r : IsRuled k t) (v : View) (at 
         made = (omega (arith, long, room));
         sit = sit_still;
         head = after_making v;
-        first = at_longer (set t.views 0 (after_making v)) (next_view v ∷ []) 0 (after_making v) (set_here t.views 0 (after_making v) (at_inside t.views 0 v at));
+        first = at_longer (set t.views 0 (after_making v)) (next_view v ∷ []) 0 (after_making v)
+            (set_here t.views 0 (after_making v) (at_inside t.views 0 v at));
         heads = record {
           about = about;
           made = sym long;
-          gone = All-weaker (IsGone (length k.system.value.masks) r.core.words t.views) (IsGone (length k.system.value.masks) r.core.words made_views) gone_still v.joined head_is.gone;
+          gone = All-weaker (IsGone (length k.system.value.masks) r.core.words t.views) (IsGone (length k.system.value.masks) r.core.words made_views)
+              gone_still v.joined head_is.gone;
           apart = head_is.apart;
         };
       } where
@@ -136,14 +145,11 @@ splits k id v about number room t r at =
     (split_ruled k t r v (subst (λ j. get_elem? t.views j ≡ some v) here at) about room)
 
 -- ---- knowing every position
-both_true : (a b : Bool) → (a && b) ≡ true → (a ≡ true) × (b ≡ true)
-both_true true b h = (refl, h)
-both_true false b h = absurd (cc)
 
 pub known_all : (n : ℕ) (known : List PosId) → knows_all n known ≡ true → (p : ℕ) → p < n → Contains known (position p)
 known_all zero known h p l = absurd (omega arith)
 known_all (suc n) known h p l =
-    let both = both_true (has_name known (position n)) (knows_all n known) h in
+    let both = and_parts (has_name known (position n)) (knows_all n known) h in
     elim (cases_eq p n) [
       | inl here ↦ named_contains known (position p) (ap (λ q. has_name known (position q)) here ∙ both.0)
       | inr other ↦ known_all n known both.1 p (omega arith)
@@ -155,7 +161,8 @@ all_known (suc n) known h =
     ap (λ b. b && knows_all n known) (contains_named known (position n) (h n (omega arith))) ∙ all_known n known (λ p l. h p (omega arith))
 
 -- ---- joining
-module _ (k : Key) (t : State (Unit {0}) View) (r : IsRuled k t) (v : View) (at : get_elem? t.views 0 ≡ some v) (about : v.about ≡ Some k) (other : ℕ) (ne : other ≢ 0)
+module _ (k : Key) (t : State (Unit {0}) View) (r : IsRuled k t) (v : View) (at : get_elem? t.views 0 ≡ some v) (about : v.about ≡ Some k) (other : ℕ)
+    (ne : other ≢ 0)
     (w : View) (there : get_elem? t.views other ≡ some w) (belongs : w.about ≡ Some k) (idle : w.core.mode ≡ Idle) where
   was_head : IsHead k r.core.words t.views v
   was_head = subst (IsHead k r.core.words t.views) (same_at t.views 0 r.head v r.first at) r.heads
@@ -169,23 +176,33 @@ module _ (k : Key) (t : State (Unit {0}) View) (r : IsRuled k t) (v : View) (at 
   joined_seats : set (set r.core.seats other new_seat) 0 (after_joining v w).core ≡ seats_of k.workers joined_views
   joined_seats =
       let l : 0 < length t.views = at_inside t.views 0 v at in
-      let m : other < length (set t.views 0 (after_joining v w)) = subst (λ n. other < n) (sym (length-set t.views 0 (after_joining v w))) (at_inside t.views other w there) in
+      let m : other < length (set t.views 0 (after_joining v w)) =
+      subst (λ n. other < n) (sym (length-set t.views 0 (after_joining v w))) (at_inside t.views other w there) in
       set_comm r.core.seats other 0 new_seat (after_joining v w).core ne
       ∙ ap (λ seats. set (set seats 0 (after_joining v w).core) other new_seat) r.seats
       ∙ ap (λ seats. set seats other new_seat) (seats_set k.workers t.views 0 (after_joining v w) l)
       ∙ seats_set k.workers (set t.views 0 (after_joining v w)) other spent m
 
   -- who was joined away earlier stays away
-  gone_before : (e : Joined) → IsGone (length k.system.value.masks) r.core.words t.views e → (e.number ≢ other) × IsGone (length k.system.value.masks) r.core.words joined_views e
+  gone_before : (e : Joined) → IsGone (length k.system.value.masks) r.core.words t.views e → (e.number ≢ other) ×
+      IsGone (length k.system.value.masks) r.core.words joined_views e
   gone_before e gone =
-      let apart : e.number ≢ other = λ is. is_live k t r other w there belongs (same_at t.views other w spent there (subst (λ j. get_elem? t.views j ≡ some spent) is gone.away)) in
-      let first : e.number ≢ 0 = λ is. is_live k t r 0 v at about (same_at t.views 0 v spent at (subst (λ j. get_elem? t.views j ≡ some spent) is gone.away)) in
-      (apart, record { away = set_else (set t.views 0 (after_joining v w)) other e.number spent apart ∙ set_else t.views 0 e.number (after_joining v w) first ∙ gone.away; unset = gone.unset })
+      let apart : e.number ≢ other = λ is. is_live k t r other w there belongs
+      (same_at t.views other w spent there (subst (λ j. get_elem? t.views j ≡ some spent) is gone.away)) in
+      let first : e.number ≢ 0 = λ is. is_live k t r 0 v at about (same_at t.views 0 v spent at (subst (λ j. get_elem? t.views j ≡ some spent) is gone.away)) in (
+        apart,
+        record {
+          away = set_else (set t.views 0 (after_joining v w)) other e.number spent apart ∙ set_else t.views 0 e.number (after_joining v w) first ∙
+              gone.away;
+          unset = gone.unset;
+        },
+      )
 
   gone_now : IsGone (length k.system.value.masks) r.core.words joined_views (joined_as w)
   gone_now =
       let number : w.number ≡ other = number_is k t r other w there belongs in
-      let m : other < length (set t.views 0 (after_joining v w)) = subst (λ n. other < n) (sym (length-set t.views 0 (after_joining v w))) (at_inside t.views other w there) in
+      let m : other < length (set t.views 0 (after_joining v w)) =
+      subst (λ n. other < n) (sym (length-set t.views 0 (after_joining v w))) (at_inside t.views other w there) in
       let count : length (system_of w.about).masks ≡ length k.system.value.masks = ap (λ (o : Option Key). length (system_of o).masks) belongs in
       record {
         away = subst (λ j. get_elem? joined_views j ≡ some spent) (sym number) (set_here (set t.views 0 (after_joining v w)) other spent m);
@@ -228,13 +245,16 @@ module _ (k : Key) (t : State (Unit {0}) View) (r : IsRuled k t) (v : View) (at 
           about = about;
           made = was_head.made ∙ sym joined_long;
           gone = All-cons (IsGone (length s.masks) r.core.words joined_views) (joined_as w) v.joined gone_now
-              (All-weaker (IsGone (length s.masks) r.core.words t.views) (IsGone (length s.masks) r.core.words joined_views) (λ e gone. (gone_before e gone).1) v.joined was_head.gone);
+              (All-weaker (IsGone (length s.masks) r.core.words t.views) (IsGone (length s.masks) r.core.words joined_views) (λ e gone. (gone_before e gone).1)
+              v.joined was_head.gone);
           apart = AllPairs-cons (λ (d : Joined) (e : Joined). d.number ≢ e.number) (joined_as w) v.joined
-              (All-weaker (IsGone (length s.masks) r.core.words t.views) (λ (e : Joined). w.number ≢ e.number) (λ e gone is. (gone_before e gone).0 (sym is ∙ number)) v.joined was_head.gone) was_head.apart;
+              (All-weaker (IsGone (length s.masks) r.core.words t.views) (λ (e : Joined). w.number ≢ e.number) (λ e gone is. (gone_before e gone).0 (sym is ∙
+              number)) v.joined was_head.gone) was_head.apart;
         };
       }
 
-pub joins : (k : Key) (id : ℕ) (v : View) (other : ℕ) (w : View) → v.about ≡ Some k → v.number ≡ 0 → w.about ≡ Some k → w.core.mode ≡ Idle → Joins (IsRuled k) id v other w (after_joining v w) spent
+pub joins : (k : Key) (id : ℕ) (v : View) (other : ℕ) (w : View) → v.about ≡ Some k → v.number ≡ 0 → w.about ≡ Some k → w.core.mode ≡ Idle →
+    Joins (IsRuled k) id v other w (after_joining v w) spent
 joins k id v other w about number belongs idle t r at ne there =
     let here : id ≡ 0 = sym (number_is k t r id v at about) ∙ number in
     let apart : other ≢ 0 = λ e. ne (e ∙ sym here) in
@@ -254,16 +274,20 @@ seat_cases (x ∷ xs) n (suc i) seat e = seat_cases xs n i seat e
 abbrev pub AllMarked : ℕ → List Joined → Type 0
 AllMarked workers joined_away = (i : ℕ) → 0 < i → i < workers → (e : Joined) × Contains joined_away e × (e.number ≡ i) × (e.marked ≡ true)
 
-module _ (k : Key) (t : State (Unit {0}) View) (r : IsRuled k t) (v : View) (at : get_elem? t.views 0 ≡ some v) (about : v.about ≡ Some k) (idle : v.core.mode ≡ Idle) (away : AllMarked k.workers v.joined)
+module _ (k : Key) (t : State (Unit {0}) View) (r : IsRuled k t) (v : View) (at : get_elem? t.views 0 ≡ some v) (about : v.about ≡ Some k)
+    (idle : v.core.mode ≡ Idle) (away : AllMarked k.workers v.joined)
     (knows : (p : ℕ) → p < length k.system.value.masks → Contains v.core.known (position p)) where
   end_head : IsHead k r.core.words t.views v
   end_head = subst (IsHead k r.core.words t.views) (same_at t.views 0 r.head v r.first at) r.heads
 
-  gone_at : (i : ℕ) → 0 < i → i < k.workers → (get_elem? t.views i ≡ some spent) × ((p : ℕ) → p < length k.system.value.masks → dirty_at (slice_index r.core.words p) i ≡ 0)
+  gone_at : (i : ℕ) → 0 < i → i < k.workers → (get_elem? t.views i ≡ some spent) ×
+      ((p : ℕ) → p < length k.system.value.masks → dirty_at (slice_index r.core.words p) i ≡ 0)
   gone_at i some_seat l =
       let one = away i some_seat l in
-      let gone = All-contains (IsGone (length k.system.value.masks) r.core.words t.views) v.joined one.0 end_head.gone one.1 in
-      (subst (λ j. get_elem? t.views j ≡ some spent) one.2 gone.away, λ p inside. subst (λ j. dirty_at (slice_index r.core.words p) j ≡ 0) one.2 (gone.unset one.3 p inside))
+      let gone = All-contains (IsGone (length k.system.value.masks) r.core.words t.views) v.joined one.0 end_head.gone one.1 in (
+        subst (λ j. get_elem? t.views j ≡ some spent) one.2 gone.away,
+        λ p inside. subst (λ j. dirty_at (slice_index r.core.words p) j ≡ 0) one.2 (gone.unset one.3 p inside),
+      )
 
   clean_at : (p w : ℕ) → w < 16 → dirty_at (slice_index r.core.words p) w ≡ 0
   clean_at p w l = elim (cases_lt p (length k.system.value.masks)) [
@@ -271,7 +295,8 @@ module _ (k : Key) (t : State (Unit {0}) View) (r : IsRuled k t) (v : View) (at 
     | inl inside ↦ elim (cases_lt w k.workers) [
       | inr above ↦ r.keeps.numbers p w above l
       | inl few ↦ elim (cases_eq w 0) [
-        | inl here ↦ subst (λ j. dirty_at (slice_index r.core.words p) j ≡ 0) (sym here) (r.keeps.known 0 v.core (seat_is k t r 0 v at about) (position p) (knows p inside))
+        | inl here ↦ subst (λ j. dirty_at (slice_index r.core.words p) j ≡ 0) (sym here) (r.keeps.known 0 v.core (seat_is k t r 0 v at about) (position p)
+            (knows p inside))
         | inr other ↦ (gone_at w (omega (arith, other)) few).1 p inside
       ]
     ]
@@ -283,10 +308,12 @@ module _ (k : Key) (t : State (Unit {0}) View) (r : IsRuled k t) (v : View) (at 
   idle_at w seat e = elim (seat_cases t.views (k.workers - length t.views) w seat (ap (λ seats. slice_get seats w) (sym r.seats) ∙ e)) [
     | inr fresh ↦ ap (λ (c : CoreSeat). c.mode) (sym fresh)
     | inl view ↦ elim (cases_eq w 0) [
-      | inl here ↦ ap (λ (c : CoreSeat). c.mode) (sym view.2) ∙ ap (λ (u : View). u.core.mode) (same_at t.views 0 view.0 v (subst (λ j. get_elem? t.views j ≡ some view.0) here view.1) at) ∙ idle
+      | inl here ↦ ap (λ (c : CoreSeat). c.mode) (sym view.2) ∙
+          ap (λ (u : View). u.core.mode) (same_at t.views 0 view.0 v (subst (λ j. get_elem? t.views j ≡ some view.0) here view.1) at) ∙ idle
       | inr other ↦
           let few : w < k.workers = (let l = at_inside t.views w view.0 view.1 in let m = r.made in omega (arith, l, m)) in
-          ap (λ (c : CoreSeat). c.mode) (sym view.2) ∙ ap (λ (u : View). u.core.mode) (same_at t.views w view.0 spent view.1 (gone_at w (omega (arith, other)) few).0)
+          ap (λ (c : CoreSeat). c.mode) (sym view.2) ∙
+          ap (λ (u : View). u.core.mode) (same_at t.views w view.0 spent view.1 (gone_at w (omega (arith, other)) few).0)
     ]
   ]
 

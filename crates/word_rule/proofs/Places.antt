@@ -17,7 +17,8 @@ pub same_at : {A : Type 0} (xs : List A) (i : ℕ) (x y : A) → get_elem? xs i 
 same_at xs i x y e f = some-injective x y (sym e ∙ f)
 
 -- the core seat of the view at a place
-seat_there : (views : List View) (more : List CoreSeat) (i : ℕ) (v : View) → get_elem? views i ≡ some v → slice_get (map (λ (w : View). w.core) views ++ more) i ≡ Some v.core
+seat_there : (views : List View) (more : List CoreSeat) (i : ℕ) (v : View) → get_elem? views i ≡ some v →
+    slice_get (map (λ (w : View). w.core) views ++ more) i ≡ Some v.core
 seat_there [] more i v e = absurd (some-ne-none v (sym e))
 seat_there (w ∷ ws) more zero v e = ap (λ (u : View). Some u.core) (some-injective w v e)
 seat_there (w ∷ ws) more (suc i) v e = seat_there ws more i v e
@@ -26,7 +27,8 @@ pub seats_at : (workers : ℕ) (views : List View) (i : ℕ) (v : View) → get_
 seats_at workers views i v e = seat_there views (replicate (workers - length views) new_seat) i v e
 
 -- one view was written
-pub seats_set : (workers : ℕ) (views : List View) (i : ℕ) (v : View) → i < length views → set (seats_of workers views) i v.core ≡ seats_of workers (set views i v)
+pub seats_set : (workers : ℕ) (views : List View) (i : ℕ) (v : View) → i < length views →
+    set (seats_of workers views) i v.core ≡ seats_of workers (set views i v)
 seats_set workers views i v l =
     let inside : i < length (map (λ (w : View). w.core) views) = subst (λ n. i < n) (sym (length-map views (λ (w : View). w.core))) l in
     set-append_left (map (λ (w : View). w.core) views) (replicate (workers - length views) new_seat) i v.core inside
@@ -34,7 +36,8 @@ seats_set workers views i v l =
     ∙ ap (λ n. map (λ (w : View). w.core) (set views i v) ++ replicate (workers - n) new_seat) (sym (length-set views i v))
 
 -- a view for a number that had none yet
-pub seats_more : (workers : ℕ) (views : List View) (v : View) → length views < workers → v.core ≡ new_seat → seats_of workers (views ++ v ∷ []) ≡ seats_of workers views
+pub seats_more : (workers : ℕ) (views : List View) (v : View) → length views < workers → v.core ≡ new_seat →
+    seats_of workers (views ++ v ∷ []) ≡ seats_of workers views
 seats_more workers views v l fresh =
     let rest : ℕ = workers - length (views ++ v ∷ []) in
     let many : suc rest ≡ workers - length views = (let long = length_push views v in omega (arith, long, l)) in

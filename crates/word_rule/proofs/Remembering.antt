@@ -1,5 +1,6 @@
 -- What a seat's memory has of its view, after each event.
-use Rattle.std.proofs.Common.{◌≡◌, ℕ, zero, suc, ◌+◌, ◌*◌, ◌%◌, ◌^◌, ◌<◌, false, if◌then◌else◌, List, [], ◌∷◌, length, set, replicate, Option, Some, None, refl, ap, sym, ◌∙◌, subst, arith}
+use Rattle.std.proofs.Common.{◌≡◌, ℕ, zero, suc, ◌+◌, ◌*◌, ◌%◌, ◌^◌, ◌<◌, false, if◌then◌else◌, List, [], ◌∷◌, length, set, replicate, Option, Some, None, refl}
+use Rattle.std.proofs.Common.{ap, sym, ◌∙◌, subst, arith}
 use Rattle.std.proofs.Math.Pow.{pow-lt}
 use Rattle.attr_ids.specs.declared.ids.PosId.{PosId}
 use Rattle.lattice_words.specs.declared.word.TheConstants.{DIRTY}
@@ -18,11 +19,6 @@ pub no_values : (n : ℕ) → values_of (replicate n None) ≡ replicate n 0
 no_values zero = refl
 no_values (suc n) = ap (λ xs. 0 ∷ xs) (no_values n)
 
-pub values_long : (looked : List (Option ℕ)) → length (values_of looked) ≡ length looked
-values_long [] = refl
-values_long (None ∷ looked) = ap suc (values_long looked)
-values_long (Some x ∷ looked) = ap suc (values_long looked)
-
 pub values_set : (looked : List (Option ℕ)) (i x : ℕ) → values_of (set looked i (Some x)) ≡ set (values_of looked) i x
 values_set [] i x = refl
 values_set (None ∷ looked) zero x = refl
@@ -31,7 +27,8 @@ values_set (None ∷ looked) (suc i) x = ap (λ ys. 0 ∷ ys) (values_set looked
 values_set (Some y ∷ looked) (suc i) x = ap (λ ys. y ∷ ys) (values_set looked i x)
 
 -- the mode of a seat that took a dirty word up
-pub takes_up : (s : System) (p : PosId) (word : ℕ) (seat : CoreSeat) → is_clean word ≡ false → (after_take s p word seat).mode ≡ Open p (replicate (length (inputs_of s p.0)) None)
+pub takes_up : (s : System) (p : PosId) (word : ℕ) (seat : CoreSeat) → is_clean word ≡ false →
+    (after_take s p word seat).mode ≡ Open p (replicate (length (inputs_of s p.0)) None)
 takes_up s p word seat dirty = ap (λ b. if b then Idle else Open p (replicate (length (inputs_of s p.0)) None)) dirty
 
 -- a seat that owes a list, or none
@@ -48,8 +45,10 @@ owing_looked [] = refl
 owing_looked (d ∷ ds) = refl
 
 -- a seat that looked at an input by its number
-pub looked_became : (k : Key) (s : System) (old new : Mine) (i word : ℕ) (place : Option PosId) (p : PosId) (list : List PosId) → old.0.about ≡ Some k → k.system.value ≡ s → place ≡ Some p → place ≡ place_in old.0.core.mode →
-    old.0.core.mode ≡ Open (opened old.0.core.mode) (looked_in old.0.core.mode) → i < length (inputs_of s (opened old.0.core.mode).0) → list ≡ inputs_of s p.0 → Looks (input_at list i).0 old word new → Becomes old word (look_of old.0 i word) new
+pub looked_became : (k : Key) (s : System) (old new : Mine) (i word : ℕ) (place : Option PosId) (p : PosId) (list : List PosId) → old.0.about ≡ Some k →
+    k.system.value ≡ s → place ≡ Some p → place ≡ place_in old.0.core.mode →
+    old.0.core.mode ≡ Open (opened old.0.core.mode) (looked_in old.0.core.mode) → i < length (inputs_of s (opened old.0.core.mode).0) → list ≡ inputs_of s p.0 →
+    Looks (input_at list i).0 old word new → Becomes old word (look_of old.0 i word) new
 looked_became k s old new i word place p list is system some_place kept mode l are looks =
     let at : p ≡ opened old.0.core.mode = place_open old.0.core.mode place p some_place kept mode in
     let same : system_of old.0.about ≡ s = system_is k old.0.about s is system in

@@ -40,10 +40,12 @@ dependents_fit k p l = most_above (λ q. length (row_at k.graph.value q).depende
 
 -- what holds of the one position that is open
 pub in_place : (k : Key) (o : Option Key) (p q : PosId) → o ≡ Some k → p.0 < length k.system.value.masks → Some p ≡ Some q → q.0 < position_count o
-in_place k o p q is l e = subst (λ n. q.0 < n) (sym (ap position_count is ∙ positions_are k)) (subst (λ (r : PosId). r.0 < length k.system.value.masks) (same_Some p q e) l)
+in_place k o p q is l e = subst (λ n. q.0 < n) (sym (ap position_count is ∙
+    positions_are k)) (subst (λ (r : PosId). r.0 < length k.system.value.masks) (same_Some p q e) l)
 
 pub in_width : (k : Key) (o : Option Key) (p q : PosId) (n : ℕ) → o ≡ Some k → n ≡ length (inputs_of k.system.value p.0) → Some p ≡ Some q → n ≡ input_count o q
-in_width k o p q n is l e = l ∙ ap (λ (r : PosId). length (inputs_of k.system.value r.0)) (same_Some p q e) ∙ sym (ap (λ (x : Option Key). input_count x q) is ∙ inputs_are k q)
+in_width k o p q n is l e = l ∙ ap (λ (r : PosId). length (inputs_of k.system.value r.0)) (same_Some p q e) ∙
+    sym (ap (λ (x : Option Key). input_count x q) is ∙ inputs_are k q)
 
 -- ---- what a seat's memory says of its view
 pub count_is : (o : Option Key) → position_count o ≡ length (system_of o).masks
@@ -54,7 +56,8 @@ pub width_is : (o : Option Key) (p : PosId) → input_count o p ≡ length (inpu
 unfolding input_count
 width_is o p = refl
 
-pub place_open : (mode : CoreMode) (place : Option PosId) (p : PosId) → place ≡ Some p → place ≡ place_in mode → mode ≡ Open (opened mode) (looked_in mode) → p ≡ opened mode
+pub place_open : (mode : CoreMode) (place : Option PosId) (p : PosId) → place ≡ Some p → place ≡ place_in mode → mode ≡ Open (opened mode) (looked_in mode) →
+    p ≡ opened mode
 place_open mode place p some_place kept is = same_Some p (opened mode) (sym some_place ∙ kept ∙ ap place_in is)
 
 -- a position of the table is one of the system
@@ -69,7 +72,9 @@ pub rows_are : (k : Key) (o : Option Key) (g : List Row) → o ≡ Some k → k.
 rows_are k o g is graph = ap rows_of is ∙ graph
 
 -- each input of a position is one by its number
-pub inputs_apart : (s : System) (p i j : ℕ) → i < length (inputs_of s p) → j < length (inputs_of s p) → (input_at (inputs_of s p) j).0 ≡ (input_at (inputs_of s p) i).0 → j ≡ i
+pub inputs_apart : (s : System) (p i j : ℕ) → i < length (inputs_of s p) → j < length (inputs_of s p) →
+    (input_at (inputs_of s p) j).0 ≡ (input_at (inputs_of s p) i).0 → j ≡ i
 inputs_apart s p i j l m e =
     let z : PosId = record { 0 = 0 } in
-    inputs-once s p j i (input_at (inputs_of s p) j) (input_at (inputs_of s p) i) (slice_get-get_or (inputs_of s p) j z m) (slice_get-get_or (inputs_of s p) i z l) e
+    inputs-once s p j i (input_at (inputs_of s p) j) (input_at (inputs_of s p) i) (slice_get-get_or (inputs_of s p) j z m)
+    (slice_get-get_or (inputs_of s p) i z l) e

@@ -1,5 +1,6 @@
 -- Each kind of step keeps the rule of the table, by the law of the core machine for its event.
-use Rattle.std.proofs.Common.{◌≡◌, ◌≢◌, ℕ, zero, suc, ◌+◌, ◌-◌, ◌==◌, ◌^◌, ◌<◌, ◌≤◌, Bool, true, false, if◌then◌else◌, eqb-true, List, [], ◌∷◌, ◌++◌, length, set, slice_index, slice_get, Option, Some, Contains, bit_and, bit_or, refl, ap, sym, ◌∙◌, subst, arith, inl, inr}
+use Rattle.std.proofs.Common.{◌≡◌, ◌≢◌, ℕ, zero, suc, ◌+◌, ◌-◌, ◌==◌, ◌^◌, ◌<◌, ◌≤◌, Bool, true, false, if◌then◌else◌, eqb-true, List, [], ◌∷◌, ◌++◌, length}
+use Rattle.std.proofs.Common.{set, slice_index, slice_get, Option, Some, Contains, bit_and, bit_or, refl, ap, sym, ◌∙◌, subst, arith, inl, inr}
 use mathlib.Core.Option.{some}
 use lib.ListN.{get_elem?}
 use Rattle.std.proofs.lemmas.Bool.{cases_eq}
@@ -65,7 +66,8 @@ module _ (k : Key) (t : State (Unit {0}) View) (r : IsRuled k t) where
         }
 
     -- seat 0 stays, and knows what it knew
-    pub head_kept : (words : List ℕ) (found : ℕ) (c : CoreSeat) → ((q j : ℕ) → j ≢ i → dirty_at (slice_index r.core.words q) j ≡ 0 → dirty_at (slice_index words q) j ≡ 0) →
+    pub head_kept : (words : List ℕ) (found : ℕ) (c : CoreSeat) → ((q j : ℕ) → j ≢ i → dirty_at (slice_index r.core.words q) j ≡ 0 →
+        dirty_at (slice_index words q) j ≡ 0) →
         (h : View) × (get_elem? (set t.views i (stepped_to v found c)) 0 ≡ some h) × IsHead k words (set t.views i (stepped_to v found c)) h
     head_kept words found c others =
         let w : View = stepped_to v found c in
@@ -89,7 +91,8 @@ module _ (k : Key) (t : State (Unit {0}) View) (r : IsRuled k t) where
             record {
               about = r.heads.about;
               made = r.heads.made ∙ sym long;
-              gone = All-weaker (IsGone count r.core.words t.views) (IsGone count words (set t.views i w)) (gone_kept words w others) r.head.joined r.heads.gone;
+              gone = All-weaker (IsGone count r.core.words t.views) (IsGone count words (set t.views i w)) (gone_kept words w others) r.head.joined
+                  r.heads.gone;
               apart = r.heads.apart;
             },
           )
@@ -133,12 +136,15 @@ module _ (k : Key) (t : State (Unit {0}) View) (r : IsRuled k t) where
     writes p n found c l others core counted =
         let inside : p < length r.core.words = (let long = r.keeps.words in omega (arith, l, long)) in
         ruled (set r.core.words p n) (set t.words p n) found c (ap (λ ws. set ws p n) r.words ∙ set-append_left r.core.words (0 ∷ []) p n inside)
-        (λ q j ne h. word_after (λ m. dirty_at m j ≡ 0) r.core.words p n q (λ here. others j ne (ap (λ x. dirty_at (slice_index r.core.words x) j) (sym here) ∙ h)) h) core counted
+        (λ q j ne h. word_after (λ m. dirty_at m j ≡ 0) r.core.words p n q (λ here. others j ne (ap (λ x. dirty_at (slice_index r.core.words x) j) (sym here) ∙
+        h)) h) core counted
 
     -- no word changed
-    pub loads : (p found : ℕ) (c : CoreSeat) → IsCore k.system.value k.graph.value k.workers (seated r.core i c) → AreCounted k.system.value k.graph.value (seated r.core i c) →
+    pub loads : (p found : ℕ) (c : CoreSeat) → IsCore k.system.value k.graph.value k.workers (seated r.core i c) →
+        AreCounted k.system.value k.graph.value (seated r.core i c) →
         IsRuled k (record { words = set t.words p (slice_index t.words p); homes = t.homes; views = set t.views i (stepped_to v found c) })
-    loads p found c core counted = ruled r.core.words (set t.words p (slice_index t.words p)) found c (set-get_or t.words p 0 ∙ r.words) (λ q j ne h. h) core counted
+    loads p found c core counted = ruled r.core.words (set t.words p (slice_index t.words p)) found c (set-get_or t.words p 0 ∙
+        r.words) (λ q j ne h. h) core counted
 
 -- ---- words and seats that stay
 pub same_entry : (seats : List CoreSeat) (w : ℕ) (seat : CoreSeat) → slice_get seats w ≡ Some seat → set seats w seat ≡ seats
@@ -151,7 +157,8 @@ cut_stays : (new n j : ℕ) → dirty_at n j ≡ 0 → dirty_at (cut_to new n) j
 cut_stays new n j h = omega (arith, bit_at_and n (bit_or new (2 ^ 64 - 2 ^ FACT_BITS)) (DIRTY + j), h)
 
 -- ---- taking up
-took_up : (k : Key) (me : Mine) (p : PosId) (n : ℕ) → me.0.about ≡ Some k → (after_take k.system.value p n me.0.core).took ≤ budget_of k.system.value k.graph.value →
+took_up : (k : Key) (me : Mine) (p : PosId) (n : ℕ) → me.0.about ≡ Some k →
+    (after_take k.system.value p n me.0.core).took ≤ budget_of k.system.value k.graph.value →
     Takes p.0 me n (stepped_to me.0 n (after_take k.system.value p n me.0.core), me.1)
 took_up k me p n about few = record {
   seat = record { view = ap (λ (o : Option Key). stepped_to me.0 n (after_take (system_of o) p n me.0.core)) (sym about); slots = refl };
@@ -168,10 +175,13 @@ takes k slots id me p about idle l t r _ at _ =
     let there = seat_is k t r id me.0 at about in
     let c : CoreSeat = after_take s p n me.0.core in
     let core : IsCore s g k.workers (written r.core p.0 (cleaned n) id c) =
-    subst (λ m. IsCore s g k.workers (written r.core p.0 (cleaned m) id (after_take s p m me.0.core))) same (take_kept s g k.workers r.few r.core r.keeps id me.0.core there p l idle) in
+    subst (λ m. IsCore s g k.workers (written r.core p.0 (cleaned m) id (after_take s p m me.0.core))) same
+    (take_kept s g k.workers r.few r.core r.keeps id me.0.core there p l idle) in
     let counted : AreCounted s g (written r.core p.0 (cleaned n) id c) =
-    subst (λ m. AreCounted s g (written r.core p.0 (cleaned m) id (after_take s p m me.0.core))) same (take_counted s g r.graph k.workers r.core r.keeps r.counts id me.0.core there p l idle) in
-    let budget : c.took ≤ budget_of s g = each_within_budget s g (written r.core p.0 (cleaned n) id c) counted id c (entry_here r.core.seats id me.0.core c there) in (
+    subst (λ m. AreCounted s g (written r.core p.0 (cleaned m) id (after_take s p m me.0.core))) same
+    (take_counted s g r.graph k.workers r.core r.keeps r.counts id me.0.core there p l idle) in
+    let budget : c.took ≤ budget_of s g =
+    each_within_budget s g (written r.core p.0 (cleaned n) id c) counted id c (entry_here r.core.seats id me.0.core c there) in (
       stepped_to me.0 n c,
       keeps,
       tt,
@@ -181,7 +191,8 @@ takes k slots id me p about idle l t r _ at _ =
 
 -- ---- looking
 pub looks : (k : Key) (slots id : ℕ) (me : Mine) (i : ℕ) → me.0.about ≡ Some k → me.0.core.mode ≡ Open (opened me.0.core.mode) (looked_in me.0.core.mode) →
-    (input_at (inputs_at me.0) i).0 < length k.system.value.masks → ((j : ℕ) → j < length (inputs_at me.0) → (input_at (inputs_at me.0) j).0 ≡ (input_at (inputs_at me.0) i).0 → j ≡ i) →
+    (input_at (inputs_at me.0) i).0 < length k.system.value.masks →
+    ((j : ℕ) → j < length (inputs_at me.0) → (input_at (inputs_at me.0) j).0 ≡ (input_at (inputs_at me.0) i).0 → j ≡ i) →
     Allows (IsRuled k) slots id me (input_at (inputs_at me.0) i).0 (λ n. n) (λ n new. Looks (input_at (inputs_at me.0) i).0 me n new)
 looks k slots id me i about mode l once t r _ at _ =
     let s : System = k.system.value in
@@ -195,9 +206,11 @@ looks k slots id me i about mode l once t r _ at _ =
     let place : (input_at (inputs_of s p.0) i).0 ≡ q = ap (λ (o : Option Key). (input_at (inputs_of (system_of o) p.0) i).0) (sym about) in
     let same : slice_index r.core.words (input_at (inputs_of s p.0) i).0 ≡ n = ap (λ x. slice_index r.core.words x) place ∙ sym (word_is k t r q l) in
     let core : IsCore s g k.workers (seated r.core id c) =
-    subst (λ m. IsCore s g k.workers (seated r.core id (after_look p looked i m me.0.core))) same (look_kept s g k.workers r.few r.core r.keeps id me.0.core there p looked i mode) in
+    subst (λ m. IsCore s g k.workers (seated r.core id (after_look p looked i m me.0.core))) same (look_kept s g k.workers r.few r.core r.keeps id me.0.core
+    there p looked i mode) in
     let counted : AreCounted s g (seated r.core id c) =
-    subst (λ m. AreCounted s g (seated r.core id (after_look p looked i m me.0.core))) same (look_counted s g r.graph k.workers r.core r.keeps r.counts id me.0.core there p looked i mode) in (
+    subst (λ m. AreCounted s g (seated r.core id (after_look p looked i m me.0.core))) same (look_counted s g r.graph k.workers r.core r.keeps r.counts id
+    me.0.core there p looked i mode) in (
       stepped_to me.0 n c,
       keeps,
       tt,
@@ -229,7 +242,8 @@ cuts k slots id me new about mode l all is t r _ at _ =
     subst (λ (y : ℕ × ℕ). IsCore s g k.workers (written r.core p.0 (cut_to y.0 y.1) id (after_cut g p y.0 y.1 me.0.core))) (λ j. (given j, same j))
     (cut_kept s g k.workers r.few r.system r.graph r.core r.keeps id me.0.core there p looked mode all) in
     let counted : AreCounted s g (written r.core p.0 (cut_to new n) id c) =
-    subst (λ m. AreCounted s g (written r.core p.0 (cut_to new m) id (after_cut g p new m me.0.core))) same (cut_counted s g r.graph k.workers r.core r.keeps r.counts id me.0.core there p looked new mode) in (
+    subst (λ m. AreCounted s g (written r.core p.0 (cut_to new m) id (after_cut g p new m me.0.core))) same
+    (cut_counted s g r.graph k.workers r.core r.keeps r.counts id me.0.core there p looked new mode) in (
       stepped_to me.0 n c,
       keeps,
       tt,
@@ -245,7 +259,8 @@ cuts k slots id me new about mode l all is t r _ at _ =
     )
 
 -- ---- telling
-contains_inside : (s : System) (g : List Row) (workers : ℕ) (core : CoreState) → IsCore s g workers core → (w : ℕ) (seat : CoreSeat) → slice_get core.seats w ≡ Some seat →
+contains_inside : (s : System) (g : List Row) (workers : ℕ) (core : CoreState) → IsCore s g workers core → (w : ℕ) (seat : CoreSeat) →
+    slice_get core.seats w ≡ Some seat →
     (d : PosId) → Contains (owed_in seat.mode) d → AreOwed s g (owed_in seat.mode)
 contains_inside s g workers core inv w seat at d has = mode_owes s g seat.mode (inv.modes w seat at) d has
 
@@ -254,7 +269,8 @@ mode_is Idle d has = absurd (omega (arith, has.1))
 mode_is (Open p looked) d has = absurd (omega (arith, has.1))
 mode_is (Owes list) d has = refl
 
-pub tells : (k : Key) (slots id : ℕ) (me : Mine) (d : PosId) (bit : ℕ) → me.0.about ≡ Some k → d.0 < length k.system.value.masks → Contains (owed_in me.0.core.mode) d → bit ≡ 2 ^ (DIRTY + me.0.number) →
+pub tells : (k : Key) (slots id : ℕ) (me : Mine) (d : PosId) (bit : ℕ) → me.0.about ≡ Some k → d.0 < length k.system.value.masks →
+    Contains (owed_in me.0.core.mode) d → bit ≡ 2 ^ (DIRTY + me.0.number) →
     Allows (IsRuled k) slots id me d.0 (λ n. bit_or n bit) (λ n after. Tells d.0 me n after)
 tells k slots id me d bit about l has is t r _ at _ =
     let s : System = k.system.value in
@@ -278,7 +294,8 @@ tells k slots id me d bit about l has is t r _ at _ =
       keeps,
       tt,
       writes k t r id me.0 at about d.0 (bit_or n bit) n c l
-          (λ j ne h. subst (λ b. dirty_at (bit_or n b) j ≡ 0) (ap (λ x. 2 ^ (DIRTY + x)) (sym number) ∙ sym is) (dirtied_other n id j ne ∙ ap (λ x. dirty_at x j) (sym same) ∙ h)) core counted,
+          (λ j ne h. subst (λ b. dirty_at (bit_or n b) j ≡ 0) (ap (λ x. 2 ^ (DIRTY + x)) (sym number) ∙ sym is) (dirtied_other n id j ne ∙
+          ap (λ x. dirty_at x j) (sym same) ∙ h)) core counted,
       record {
         seat = record { view = refl; slots = refl };
         once = (contains_inside s g k.workers r.core r.keeps id me.0.core there d has).once;
@@ -286,15 +303,20 @@ tells k slots id me d bit about l has is t r _ at _ =
     )
 
 -- ---- clearing
-clear_core : (s : System) (g : List Row) (workers : ℕ) → workers ≤ 16 → (core : CoreState) → IsCore s g workers core → (w : ℕ) (v : View) → slice_get core.seats w ≡ Some v.core →
-    (p : PosId) (b : Bool) → (b ≡ true → dirty_at (slice_index core.words p.0) w ≡ 0) → IsCore s g workers (seated core w (if b then after_clear p v.core else v.core))
+clear_core : (s : System) (g : List Row) (workers : ℕ) → workers ≤ 16 → (core : CoreState) → IsCore s g workers core → (w : ℕ) (v : View) →
+    slice_get core.seats w ≡ Some v.core →
+    (p : PosId) (b : Bool) → (b ≡ true → dirty_at (slice_index core.words p.0) w ≡ 0) →
+    IsCore s g workers (seated core w (if b then after_clear p v.core else v.core))
 clear_core s g workers few core inv w v at p true unset = clear_kept s g workers few core inv w v.core at p (unset refl)
-clear_core s g workers few core inv w v at p false unset = subst (λ seats. IsCore s g workers (record { words = core.words; seats = seats })) (sym (same_entry core.seats w v.core at)) inv
+clear_core s g workers few core inv w v at p false unset =
+    subst (λ seats. IsCore s g workers (record { words = core.words; seats = seats })) (sym (same_entry core.seats w v.core at)) inv
 
-clear_count : (s : System) (g : List Row) → IsGraphOf s g → (workers : ℕ) (core : CoreState) → IsCore s g workers core → AreCounted s g core → (w : ℕ) (v : View) → slice_get core.seats w ≡ Some v.core →
+clear_count : (s : System) (g : List Row) → IsGraphOf s g → (workers : ℕ) (core : CoreState) → IsCore s g workers core → AreCounted s g core →
+    (w : ℕ) (v : View) → slice_get core.seats w ≡ Some v.core →
     (p : PosId) (b : Bool) → AreCounted s g (seated core w (if b then after_clear p v.core else v.core))
 clear_count s g of workers core inv counted w v at p true = clear_counted s g of workers core inv counted w v.core at p
-clear_count s g of workers core inv counted w v at p false = subst (λ seats. AreCounted s g (record { words = core.words; seats = seats })) (sym (same_entry core.seats w v.core at)) counted
+clear_count s g of workers core inv counted w v at p false =
+    subst (λ seats. AreCounted s g (record { words = core.words; seats = seats })) (sym (same_entry core.seats w v.core at)) counted
 
 pub clears : (k : Key) (slots id : ℕ) (me : Mine) (p : PosId) → me.0.about ≡ Some k → p.0 < length k.system.value.masks →
     Allows (IsRuled k) slots id me p.0 (λ n. n) (λ n after. Clears p.0 me n after)

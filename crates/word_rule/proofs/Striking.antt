@@ -1,13 +1,11 @@
 -- Finding a position in a list, and striking it out.
-use Rattle.std.proofs.Common.{◌≡◌, ◌≢◌, ℕ, zero, suc, ◌+◌, ◌<◌, ◌≤◌, not, cond, eqb, eq-eqb, ne_eqb, List, [], ◌∷◌, length, get_or, drop, length-drop, AllPairs, Contains, refl, ap, sym, ◌∙◌, subst, arith}
+use Rattle.std.proofs.Common.{◌≡◌, ◌≢◌, ℕ, zero, suc, ◌+◌, ◌<◌, ◌≤◌, not, cond, eqb, eq-eqb, ne_eqb, List, [], ◌∷◌, length, get_or, drop, length-drop, AllPairs}
+use Rattle.std.proofs.Common.{Contains, refl, ap, sym, ◌∙◌, subst, arith}
 use Rattle.std.specs.List.{remove}
 use Rattle.std.proofs.lemmas.List.{drop_more}
+use Rattle.rule_terms.proofs.Marked.{same_position}
 use Rattle.attr_ids.specs.declared.ids.PosId.{PosId}
 use Rattle.fix_core.specs.Machine.{without}
-
--- two positions with one number are one
-pub same_position : (a b : PosId) → a.0 ≡ b.0 → a ≡ b
-same_position a b e = λ j. record { 0 = e j }
 
 later_at : (x d : PosId) (xs : List PosId) → x.0 ≢ d.0 → (k : ℕ) → k < length (x ∷ xs) → get_or (x ∷ xs) k d ≡ d → Contains xs d
 later_at x d xs ne zero l e = absurd (ne (ap (λ (q : PosId). q.0) e))
@@ -42,25 +40,30 @@ just_here d x ys zs e = ap (λ b. cond (not b) ys zs) (eq-eqb d.0 x.0 e)
 -- a list in which it does not stand
 untouched : (d : PosId) (xs : List PosId) → ((k : ℕ) → k < length xs → d.0 ≢ (get_or xs k d).0) → without d xs ≡ xs
 untouched d [] h = refl
-untouched d (x ∷ xs) h = not_here d x (x ∷ without d xs) (without d xs) (h 0 (omega arith)) ∙ ap (λ ys. x ∷ ys) (untouched d xs (λ k l. h (suc k) (omega (arith, l))))
+untouched d (x ∷ xs) h = not_here d x (x ∷ without d xs) (without d xs) (h 0 (omega arith)) ∙
+    ap (λ ys. x ∷ ys) (untouched d xs (λ k l. h (suc k) (omega (arith, l))))
 
 -- the first of the list
 pub struck_first : (d : PosId) (xs : List PosId) → AllPairs (λ (a : PosId) (b : PosId). a.0 ≢ b.0) (d ∷ xs) → without d (d ∷ xs) ≡ xs
 struck_first d xs once = just_here d d (d ∷ without d xs) (without d xs) refl ∙ untouched d xs (head_apart d xs once)
 
 -- any one of it
-struck_at : (d : PosId) (at : ℕ) (xs : List PosId) → drop at xs ≡ d ∷ drop (at + 1) xs → at < length xs → AllPairs (λ (a : PosId) (b : PosId). a.0 ≢ b.0) xs → remove xs at ≡ without d xs
+struck_at : (d : PosId) (at : ℕ) (xs : List PosId) → drop at xs ≡ d ∷ drop (at + 1) xs → at < length xs → AllPairs (λ (a : PosId) (b : PosId). a.0 ≢ b.0) xs →
+    remove xs at ≡ without d xs
 struck_at d at [] is l once = absurd (omega (arith, l))
 struck_at d zero (x ∷ xs) is l once =
     let here : x ≡ d = ap (λ (ys : List PosId). get_or ys 0 x) is in
-    sym (subst (λ (y : PosId). without d (y ∷ xs) ≡ xs) (sym here) (struck_first d xs (subst (λ (y : PosId). AllPairs (λ (a : PosId) (b : PosId). a.0 ≢ b.0) (y ∷ xs)) here once)))
+    sym (subst (λ (y : PosId). without d (y ∷ xs) ≡ xs) (sym here)
+    (struck_first d xs (subst (λ (y : PosId). AllPairs (λ (a : PosId) (b : PosId). a.0 ≢ b.0) (y ∷ xs)) here once)))
 struck_at d (suc at) (x ∷ xs) is l once =
     let inside : at < length xs = omega (arith, l) in
     let there : get_or xs at x ≡ d = ap (λ (ys : List PosId). get_or ys 0 x) (sym (drop_more xs at x inside) ∙ is) in
     let ne : d.0 ≢ x.0 = λ e. head_apart x xs once at inside (sym e ∙ ap (λ (q : PosId). q.0) (sym there)) in
-    ap (λ ys. x ∷ ys) (struck_at d at xs (drop_more xs at x inside ∙ ap (λ y. y ∷ drop (at + 1) xs) there) inside (tail_pairs x xs once)) ∙ sym (not_here d x (x ∷ without d xs) (without d xs) ne)
+    ap (λ ys. x ∷ ys) (struck_at d at xs (drop_more xs at x inside ∙ ap (λ y. y ∷ drop (at + 1) xs) there) inside (tail_pairs x xs once)) ∙
+    sym (not_here d x (x ∷ without d xs) (without d xs) ne)
 
-pub struck : (d : PosId) (n at : ℕ) (xs : List PosId) → n ≤ at → at < length xs → drop at xs ≡ d ∷ drop (at + 1) xs → AllPairs (λ (a : PosId) (b : PosId). a.0 ≢ b.0) (drop n xs) →
+pub struck : (d : PosId) (n at : ℕ) (xs : List PosId) → n ≤ at → at < length xs → drop at xs ≡ d ∷ drop (at + 1) xs →
+    AllPairs (λ (a : PosId) (b : PosId). a.0 ≢ b.0) (drop n xs) →
     drop n (remove xs at) ≡ without d (drop n xs)
 struck d n at [] le l is once = absurd (omega (arith, l))
 struck d zero at (x ∷ xs) le l is once = struck_at d at (x ∷ xs) is l once

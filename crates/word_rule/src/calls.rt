@@ -30,7 +30,8 @@ impl<'s> LatticeWords<'s> {
         requires position { p.0 < length (system_in self.now).masks }
         ensures same { IsSameSeat seat.old seat.new }
         ensures took { core_of seat.new ≡ after_take (system_in self.now) p (found_by seat.new) (core_of seat.old) }
-        ensures answer { MatchOption result (is_clean (found_by seat.new) ≡ true) (λ facts. (is_clean (found_by seat.new) ≡ false) × (facts ≡ facts_of (found_by seat.new))) }
+        ensures answer { MatchOption result (is_clean (found_by seat.new) ≡ true) (λ facts. (is_clean (found_by seat.new) ≡ false) ×
+            (facts ≡ facts_of (found_by seat.new))) }
         ensures budget { (core_of seat.new).took ≤ budget_of (system_in self.now) (graph_in self.now) }
     {
         let word = self
@@ -51,7 +52,8 @@ impl<'s> LatticeWords<'s> {
         requires open { IsOpen (core_of seat.old).mode }
         requires input { i < length (inputs_of (system_in self.now) (opened (core_of seat.old).mode).0) }
         ensures same { IsSameSeat seat.old seat.new }
-        ensures looked { core_of seat.new ≡ after_look (opened (core_of seat.old).mode) (looked_in (core_of seat.old).mode) i (found_by seat.new) (core_of seat.old) }
+        ensures looked { core_of seat.new ≡ after_look (opened (core_of seat.old).mode) (looked_in (core_of seat.old).mode) i (found_by seat.new)
+            (core_of seat.old) }
         ensures answer { result ≡ facts_of (found_by seat.new) }
     {
         let Some(p) = seat.place else { unreachable!() };
@@ -130,7 +132,8 @@ impl<'s> LatticeWords<'s> {
         requires idle { (core_of seat.old).mode ≡ Idle }
         requires position { p.0 < length (system_in self.now).masks }
         ensures same { IsSameSeat seat.old seat.new }
-        ensures cleared { core_of seat.new ≡ (if dirty_at (found_by seat.new) (number_of seat.old) == 0 then after_clear p (core_of seat.old) else core_of seat.old) }
+        ensures cleared { core_of seat.new ≡ (if dirty_at (found_by seat.new) (number_of seat.old) == 0 then after_clear p (core_of seat.old) else
+            core_of seat.old) }
         ensures answer { result ≡ (dirty_at (found_by seat.new) (number_of seat.old) == 0) }
     {
         let word = self

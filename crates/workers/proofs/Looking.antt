@@ -1,5 +1,6 @@
 -- Looking at the inputs of the open position, one after another.
-use Rattle.std.proofs.Common.{◌≡◌, ℕ, zero, suc, ◌+◌, ◌<◌, true, List, [], ◌∷◌, length, set, take, Option, Some, None, refl, ap, sym, ◌∙◌, subst, arith, add-one}
+use Rattle.std.proofs.Common.{◌≡◌, ℕ, zero, suc, ◌+◌, ◌<◌, true, List, [], ◌∷◌, length, set, take, Option, Some, None, refl, ap, sym, ◌∙◌, subst, arith}
+use Rattle.std.proofs.Common.{add-one}
 use Rattle.std.proofs.lemmas.Bool.{false≢true}
 use Rattle.std.proofs.lemmas.List.{length-set}
 use Rattle.attr_ids.specs.declared.ids.PosId.{PosId}
@@ -18,14 +19,17 @@ opened_is s p seat has = ap opened has.mode
 pub is_open : (s : System) (p : PosId) (seat : CoreSeat) → HasOpen s p seat → IsOpen seat.mode
 is_open s p seat has = has.mode ∙ ap (λ (q : PosId). Open q (looked_in seat.mode)) (sym (opened_is s p seat has))
 
-pub input_inside : (s : System) (p : PosId) (seat : CoreSeat) (i : ℕ) → HasOpen s p seat → i < length (inputs_of s p.0) → i < length (inputs_of s (opened seat.mode).0)
+pub input_inside : (s : System) (p : PosId) (seat : CoreSeat) (i : ℕ) → HasOpen s p seat → i < length (inputs_of s p.0) →
+    i < length (inputs_of s (opened seat.mode).0)
 input_inside s p seat i has l = subst (λ (q : PosId). i < length (inputs_of s q.0)) (sym (opened_is s p seat has)) l
 
 -- ---- one look
-looked_is : (p : PosId) (looked : List (Option ℕ)) (i word : ℕ) (old new : CoreSeat) → new ≡ after_look p looked i word old → looked_in new.mode ≡ set looked i (Some (facts_of word))
+looked_is : (p : PosId) (looked : List (Option ℕ)) (i word : ℕ) (old new : CoreSeat) → new ≡ after_look p looked i word old →
+    looked_in new.mode ≡ set looked i (Some (facts_of word))
 looked_is p looked i word old new is = ap (λ (c : CoreSeat). looked_in c.mode) is
 
-pub stays_open : (s : System) (p : PosId) (old new : CoreSeat) (i word : ℕ) → HasOpen s p old → new ≡ after_look (opened old.mode) (looked_in old.mode) i word old → HasOpen s p new
+pub stays_open : (s : System) (p : PosId) (old new : CoreSeat) (i word : ℕ) → HasOpen s p old →
+    new ≡ after_look (opened old.mode) (looked_in old.mode) i word old → HasOpen s p new
 stays_open s p old new i word has is =
     let looked : looked_in new.mode ≡ set (looked_in old.mode) i (Some (facts_of word)) = looked_is (opened old.mode) (looked_in old.mode) i word old new is in
     let mode : new.mode ≡ Open (opened old.mode) (set (looked_in old.mode) i (Some (facts_of word))) = ap (λ (c : CoreSeat). c.mode) is in record {
@@ -40,10 +44,12 @@ all_more (None ∷ looked) (suc i) x l is = absurd (false≢true is)
 all_more (Some y ∷ looked) (suc i) x l is = all_more looked i x (omega (arith, l)) is
 
 -- with one input more looked at, the values of one more are there
-pub looks_more : (s : System) (p : PosId) (old new : CoreSeat) (i word : ℕ) → HasOpen s p old → i < length (inputs_of s p.0) → new ≡ after_look (opened old.mode) (looked_in old.mode) i word old →
+pub looks_more : (s : System) (p : PosId) (old new : CoreSeat) (i word : ℕ) → HasOpen s p old → i < length (inputs_of s p.0) →
+    new ≡ after_look (opened old.mode) (looked_in old.mode) i word old →
     has_all (take i (looked_in old.mode)) ≡ true → has_all (take (i + 1) (looked_in new.mode)) ≡ true
 looks_more s p old new i word has l is before =
-    ap (λ (n : ℕ). has_all (take n (looked_in new.mode))) (add-one i) ∙ ap (λ (xs : List (Option ℕ)). has_all (take (suc i) xs)) (looked_is (opened old.mode) (looked_in old.mode) i word old new is) ∙
+    ap (λ (n : ℕ). has_all (take n (looked_in new.mode))) (add-one i) ∙
+    ap (λ (xs : List (Option ℕ)). has_all (take (suc i) xs)) (looked_is (opened old.mode) (looked_in old.mode) i word old new is) ∙
     all_more (looked_in old.mode) i (facts_of word) (omega (arith, l, has.long)) before
 
 -- and at the end all are
@@ -52,5 +58,6 @@ all_there [] is = refl
 all_there (None ∷ looked) is = is
 all_there (Some y ∷ looked) is = all_there looked is
 
-pub looked_all : (s : System) (p : PosId) (seat : CoreSeat) (i : ℕ) → HasOpen s p seat → i ≡ length (inputs_of s p.0) → has_all (take i (looked_in seat.mode)) ≡ true → has_all (looked_in seat.mode) ≡ true
+pub looked_all : (s : System) (p : PosId) (seat : CoreSeat) (i : ℕ) → HasOpen s p seat → i ≡ length (inputs_of s p.0) →
+    has_all (take i (looked_in seat.mode)) ≡ true → has_all (looked_in seat.mode) ≡ true
 looked_all s p seat i has end is = all_there (looked_in seat.mode) (ap (λ (n : ℕ). has_all (take n (looked_in seat.mode))) (has.long ∙ sym end) ∙ is)

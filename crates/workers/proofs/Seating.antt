@@ -19,7 +19,8 @@ seat_again words a b same of = (same.0 ∙ of.0, ap (λ (v : View). v.about) sam
 
 -- ---- counted turns
 -- a worker that changed neither its seat nor its count, and has its pool and its robber still
-pub taken_none : (words : LatticeWords) (old new : Worker) → IsWorkerOf words old → IsWorkerOf words new → new.seat ≡ old.seat → new.taken ≡ old.taken → HasTaken words old new
+pub taken_none : (words : LatticeWords) (old new : Worker) → IsWorkerOf words old → IsWorkerOf words new → new.seat ≡ old.seat → new.taken ≡ old.taken →
+    HasTaken words old new
 taken_none words old new was is seat taken = record {
   worker = is;
   same = subst (λ (s : WorkerSeat). IsSameSeat old.seat s) (sym seat) (same_here old.seat);

@@ -21,7 +21,8 @@ pub owed_inside : (words : LatticeWords) (seat : WorkerSeat) (d : PosId) → IsS
 owed_inside words seat d of has = inside_of words.table.shared.key seat.seat.me.0.about words.system.now d.0 of.1 words.about_system (seat.debts d has)
 
 -- and less is owed once it is told
-pub owes_less : (w : ℕ) (d : PosId) (word : ℕ) (old new : CoreSeat) → Contains (owed_in old.mode) d → new ≡ after_tell w d (owed_in old.mode) word old → length (owed_in new.mode) < length (owed_in old.mode)
+pub owes_less : (w : ℕ) (d : PosId) (word : ℕ) (old new : CoreSeat) → Contains (owed_in old.mode) d → new ≡ after_tell w d (owed_in old.mode) word old →
+    length (owed_in new.mode) < length (owed_in old.mode)
 owes_less w d word old new has is =
     let fewer = without_fewer d (owed_in old.mode) has in
     let owed : owed_in new.mode ≡ without d (owed_in old.mode) = ap (λ (c : CoreSeat). owed_in c.mode) is ∙ owing_owed (without d (owed_in old.mode)) in

@@ -10,4 +10,5 @@ no_call = record { mention = record { name = record { from = 0; to = 0 }; after 
 pub meet-requires-clause-over : goal.meet-requires-clause-over
 meet-requires-clause-over c =
     let long : length c.args.m.now.funcs ≡ length c.loop-call.system.masks = sym (ap length c.loop-call.invariant.1 ∙ c.requires.positions) in
-    subst (λ n. is_over n c.term.result ≡ true) long (subst (λ t. is_over (length c.args.m.now.funcs) t ≡ true) (sym c.term.ensures) (term_over c.args.m.now (get_or c.args.calls.now c.loop-call.call-index no_call)))
+    subst (λ n. is_over n c.term.result ≡ true) long (subst (λ t. is_over (length c.args.m.now.funcs) t ≡ true) (sym c.term.ensures)
+    (term_over c.args.m.now (get_or c.args.calls.now c.loop-call.call-index no_call)))

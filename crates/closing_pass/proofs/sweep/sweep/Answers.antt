@@ -16,4 +16,7 @@ loop-p-preserved c =
     ]
 
 pub returns-clause-fits : goal.returns-clause-fits
-returns-clause-fits c = All-from_get_or (λ (word : ℕ). word < 2 ^ 64) c.loop-p.words 0 (λ i l. c.loop-p.invariant.fits i (omega (arith, c.loop-p.invariant.long)))
+returns-clause-fits c = All-from_get_or (λ (word : ℕ). word < 2 ^ 64) c.loop-p.words 0 (λ i l. c.loop-p.invariant.fits i (omega (
+  arith,
+  c.loop-p.invariant.long,
+)))

@@ -10,7 +10,8 @@ cost_is c =
     ap (λ mask. count_ones mask * length c.of.result.now) c.mask.ensures.mask ∙
     ap (λ n. count_ones (get_or c.args.s.now.masks c.loop-p.p 0) * n) (ap length c.of.ensures)
 
-cost_le : (c : After-of) → retaken (get_or c.args.s.now.masks c.loop-p.p 0) (row_at c.args.g.now c.loop-p.p) ≤ 64 * length (row_at c.args.g.now c.loop-p.p).dependents
+cost_le : (c : After-of) → retaken (get_or c.args.s.now.masks c.loop-p.p 0) (row_at c.args.g.now c.loop-p.p) ≤ 64 * length
+    (row_at c.args.g.now c.loop-p.p).dependents
 cost_le c = retaken-le _ (row_at c.args.g.now c.loop-p.p) (omega (arith, c.mask.ensures.mask, c.mask.type_inv))
 
 pub overflow_mul-budget : goal.overflow_mul-budget
@@ -40,4 +41,5 @@ returns c =
     let s = c.args.s.now in
     let graph = c.args.g.now in
     let last : c.loop-p.p ≡ length s.masks = omega arith in
-    c.loop-p.invariant.budget ∙ ap (λ p. length s.masks + cost_below s.masks graph p) last ∙ ap (λ n. length s.masks + n) (cost_whole s.masks graph c.requires.long)
+    c.loop-p.invariant.budget ∙ ap (λ p. length s.masks + cost_below s.masks graph p) last ∙
+    ap (λ n. length s.masks + n) (cost_whole s.masks graph c.requires.long)

@@ -10,5 +10,6 @@ count_each-requires c =
     let s = c.args.s.now in
     let ps = c.inputs.result.now in
     let inputs : inputs_of s c.loop-p.p ≡ ps = sym c.inputs.ensures in
-    let within : All (λ (q : PosId). q.0 < length s.masks) ps = All-same (λ (q : PosId). q.0 < length s.masks) ps (inputs_of s c.loop-p.p) (sym inputs) (inputs_within s c.count-p-end.ensures.system c.loop-p.p) in
+    let within : All (λ (q : PosId). q.0 < length s.masks) ps =
+    All-same (λ (q : PosId). q.0 < length s.masks) ps (inputs_of s c.loop-p.p) (sym inputs) (inputs_within s c.count-p-end.ensures.system c.loop-p.p) in
     All-weaker (λ (q : PosId). q.0 < length s.masks) (λ (q : PosId). q.0 < length c.deref_mut.result.now) (λ q l. omega arith) ps within

@@ -12,6 +12,7 @@ returns-clause-graph c =
     let s = c.args.s.now in
     record {
       long = length-shown c.enter_all.new.rows ∙ c.in_ok-enter_all.ensures.long;
-      rows = λ q l. subst (λ row. IsRow (inputs_of s) (reads_by s) (length s.masks) q row) (sym (c.in_ok-enter_all.ensures.rows q.0 l)) (row_below-is (inputs_of s) (reads_by s) q (inputs_distinct s) (length s.masks));
+      rows = λ q l. subst (λ row. IsRow (inputs_of s) (reads_by s) (length s.masks) q row) (sym (c.in_ok-enter_all.ensures.rows q.0 l))
+          (row_below-is (inputs_of s) (reads_by s) q (inputs_distinct s) (length s.masks));
       few = omega (arith, c.in_ok-enter_all.ensures.count, c.edges-edges.ensures.edges, c.if-edges-gt-EDGE_LIMIT.false);
     }

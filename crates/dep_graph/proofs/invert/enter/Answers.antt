@@ -26,7 +26,13 @@ push-requires c =
     let z : PosId = record { 0 = 0 } in
     let is = ap (λ ps. (get_or ps i z).0) inputs in
     let on_list : i < length (inputs_of s d.0) = omega (arith, ap length inputs, c.loop-i-test.true) in
-    omega (arith, is, All-get_or (λ (p : PosId). p.0 < length s.masks) (inputs_of s d.0) i z on_list (inputs_within s c.requires.system d.0), c.requires.long, c.loop-i.invariant.long)
+    omega (
+      arith,
+      is,
+      All-get_or (λ (p : PosId). p.0 < length s.masks) (inputs_of s d.0) i z on_list (inputs_within s c.requires.system d.0),
+      c.requires.long,
+      c.loop-i.invariant.long,
+    )
 
 pub overflow_cast-i : goal.overflow_cast-i
 overflow_cast-i c =
@@ -45,10 +51,17 @@ loop-i-preserved c =
     let on_list : i < length (inputs_of s d.0) = omega (arith, ap length inputs, c.loop-i-test.true) in
     let is : at ≡ (get_or (inputs_of s d.0) i z).0 = ap (λ ps. (get_or ps i z).0) inputs in
     let within : at < length c.loop-i.rows =
-    omega (arith, is, All-get_or (λ (p : PosId). p.0 < length s.masks) (inputs_of s d.0) i z on_list (inputs_within s c.requires.system d.0), c.requires.long, c.loop-i.invariant.long) in
+    omega (
+      arith,
+      is,
+      All-get_or (λ (p : PosId). p.0 < length s.masks) (inputs_of s d.0) i z on_list (inputs_within s c.requires.system d.0),
+      c.requires.long,
+      c.loop-i.invariant.long,
+    ) in
     let bits : c.reads.result ≡ reads_by s d.0 at = c.reads.ensures ∙ ap (reads_by s d.0) (sym is) in
     let next = c.in_ok-push.ensures.ok ∙ ap (λ b. set c.loop-i.rows at (with_edge (edges_at c.loop-i.rows at) d b)) bits in
-    let after = entered_after (inputs_of s d.0) (reads_by s d.0) d c.args.rows.now c.loop-i.rows c.push.new.self i at z on_list is within next c.loop-i.invariant.entered in
+    let after = entered_after (inputs_of s d.0) (reads_by s d.0) d c.args.rows.now c.loop-i.rows c.push.new.self i at z on_list is within next
+    c.loop-i.invariant.entered in
     record {
       long = after.0 ∙ c.loop-i.invariant.long;
       entered = after.1;

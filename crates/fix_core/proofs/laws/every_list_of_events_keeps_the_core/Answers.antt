@@ -7,4 +7,5 @@ pub returns-clause-kept : goal.returns-clause-kept
 returns-clause-kept c = events_kept
 
 pub returns-clause-reached : goal.returns-clause-reached
-returns-clause-reached c = λ s graph is of workers some few events may. events_kept s graph is of workers few events may (opening s workers) (opening_core s graph workers is some few)
+returns-clause-reached c = λ s graph is of workers some few events may. events_kept s graph is of workers few events may (opening s workers)
+    (opening_core s graph workers is some few)

@@ -17,7 +17,9 @@ loop-j-preserved c =
     let at : get_or ds j z ≡ d = ap (λ xs. get_or xs j z) (sym same) in
     elim c.if-read_by-lost-ne0.branch [
       | then-read_by-lost-ne0+in_ok-push w ↦ w.list-is ∙ w.in_ok-push.ensures.ok ∙ ap (λ xs. xs ++ d ∷ []) c.loop-j.invariant ∙
-          sym (reader_added c.args.lost ds reads j d z l c.requires.reads at (λ e. w.if-read_by-lost-ne0.true (ap (λ b. bit_and b c.args.lost) c.read_by.ensures ∙ e)))
+          sym (reader_added c.args.lost ds reads j d z l c.requires.reads at
+          (λ e. w.if-read_by-lost-ne0.true (ap (λ b. bit_and b c.args.lost) c.read_by.ensures ∙ e)))
       | else-read_by-lost-ne0 w ↦ w.list-is ∙ c.loop-j.invariant ∙
-          sym (reader_kept c.args.lost ds reads j d z l c.requires.reads at (ap (λ b. bit_and b c.args.lost) (sym c.read_by.ensures) ∙ w.if-read_by-lost-ne0.false))
+          sym (reader_kept c.args.lost ds reads j d z l c.requires.reads at (ap (λ b. bit_and b c.args.lost) (sym c.read_by.ensures) ∙
+          w.if-read_by-lost-ne0.false))
     ]

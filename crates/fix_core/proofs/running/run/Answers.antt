@@ -12,10 +12,13 @@ loop-event-preserved c =
     let zero_pos : PosId = record { 0 = 0 } in
     let d : CoreEvent = Take 0 zero_pos in
     record {
-      is = next_is s g c.args.start.now loop.state c.do_event.new.c c.args.events.now c.as_slice-event-items.result.now loop.event-index d c.as_slice-event-items.ensures c.loop-event-test.true
+      is = next_is s g c.args.start.now loop.state c.do_event.new.c c.args.events.now c.as_slice-event-items.result.now loop.event-index d
+          c.as_slice-event-items.ensures c.loop-event-test.true
           loop.invariant.is loop.invariant.can loop.invariant.seats c.requires.events c.in_ok-do_event.ensures;
-      can = next_can s g c.args.start.now loop.state c.do_event.new.c c.args.events.now c.as_slice-event-items.result.now loop.event-index d c.as_slice-event-items.ensures c.loop-event-test.true
+      can = next_can s g c.args.start.now loop.state c.do_event.new.c c.args.events.now c.as_slice-event-items.result.now loop.event-index d
+          c.as_slice-event-items.ensures c.loop-event-test.true
           loop.invariant.is loop.invariant.can loop.invariant.seats c.requires.events c.in_ok-do_event.ensures;
-      seats = next_seats s g c.args.start.now loop.state c.do_event.new.c c.args.events.now c.as_slice-event-items.result.now loop.event-index d c.as_slice-event-items.ensures c.loop-event-test.true
+      seats = next_seats s g c.args.start.now loop.state c.do_event.new.c c.args.events.now c.as_slice-event-items.result.now loop.event-index d
+          c.as_slice-event-items.ensures c.loop-event-test.true
           loop.invariant.is loop.invariant.can loop.invariant.seats c.requires.events c.in_ok-do_event.ensures;
     }

@@ -1,4 +1,5 @@
 use Rattle.std.proofs.Common.{◌≡◌, ◌==◌, ◌||◌, ◌&&◌, not, Bool, inl, inr, ℕ, zero, suc, true, false, refl, List, [], ◌∷◌, Some, slice_get, sym, ap, subst, ◌∙◌}
+use Rattle.std.proofs.Common.{true≢false}
 use Rattle.std.specs.List.{AllByRecursion}
 use Rattle.std.proofs.lemmas.Bool.Decides.{eqb_tells}
 use Rattle.std.proofs.lemmas.List.Elements.{All-from_recursion}
@@ -14,16 +15,13 @@ use Rattle.ir_meaning.specs.Meanings.{Permits, promises}
 use Rattle.ir_meaning.specs.Sample.{call_attrs, sample, opened, goes_on, enters_body, throws}
 use Rattle.ir_meaning.proofs.samples.an_honest_run_can_unwind.Goals as goal
 
-clash : true ≡ false → ⊥
-clash e = cc
-
 -- where no call that stands promises the word, a call that promises it does not stand
 stands_not : (p : Promise) (a : Active) (calls : List Active) → promises sample p a ≡ true → AllByRecursion (λ b. promises sample p b ≡ false) calls →
     (k : ℕ) → slice_get calls k ≡ Some a → ⊥
 stands_not p a [] promised none k e = cc
 stands_not p a (b ∷ calls) promised none zero e =
     let same : b ≡ a = cc in
-    clash (sym promised ∙ subst (λ c. promises sample p c ≡ false) same none.0)
+    true≢false (sym promised ∙ subst (λ c. promises sample p c ≡ false) same none.0)
 stands_not p a (b ∷ calls) promised none (suc k) e = stands_not p a calls promised none.1 k e
 
 -- an event that no call makes which promises the word is permitted to all that do

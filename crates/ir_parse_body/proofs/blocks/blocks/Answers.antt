@@ -2,20 +2,22 @@ use Rattle.std.proofs.Common.{rules, ◌≡◌, ◌++◌, [], ◌∷◌, sym, su
 use Rattle.ir_tree.specs.Steps.{Longest}
 use Rattle.ir_tree.specs.Blocks.{block}
 use Rattle.ir_tree.proofs.ClearBlocks.{block_of}
-use Rattle.ir_parse_parts.proofs.Longest.{Reached, reached_next, reached_all}
-use Rattle.ir_parse_body.proofs.Sequences.{ends}
+use Rattle.ir_parse_parts.proofs.Longest.{Reached, reached_next, reached_all, ends}
 use Rattle.ir_parse_body.proofs.blocks.blocks.Goals as goal
 
 pub loop-found-smaller : goal.loop-found-smaller
 loop-found-smaller c =
-    let l = ends (block_of c.args.toks.now) refl c.loop-found.place c.in-Some.next c.in-Some.block (subst (Longest (block c.args.toks.now) c.loop-found.place) c.in-Some.is c.in_ok-block.ensures) in
+    let l = ends (block_of c.args.toks.now) refl c.loop-found.place c.in-Some.next c.in-Some.block (subst (Longest (block c.args.toks.now) c.loop-found.place)
+    c.in-Some.is c.in_ok-block.ensures) in
     omega (arith, l.0, l.1)
 
 pub loop-found-preserved : goal.loop-found-preserved
 loop-found-preserved c =
     let ts = c.args.toks.now in
     let e : c.push.new.self ≡ c.loop-found.found ++ c.in-Some.block ∷ [] = search rules in
-    subst (λ z. Reached (block ts) c.args.at z c.in-Some.next) (sym e) (reached_next (block_of ts) refl c.args.at c.loop-found.place c.in-Some.next c.loop-found.found c.in-Some.block c.loop-found.invariant (subst (Longest (block ts) c.loop-found.place) c.in-Some.is c.in_ok-block.ensures))
+    subst (λ z. Reached (block ts) c.args.at z c.in-Some.next) (sym e) (reached_next (block_of ts) refl c.args.at c.loop-found.place c.in-Some.next
+    c.loop-found.found c.in-Some.block c.loop-found.invariant (subst (Longest (block ts) c.loop-found.place) c.in-Some.is c.in_ok-block.ensures))
 
 pub returns : goal.returns
-returns c = reached_all (block c.args.toks.now) c.args.at c.loop-found.place c.loop-found.found c.loop-found.invariant (subst (Longest (block c.args.toks.now) c.loop-found.place) c.in_default.is c.in_ok-block.ensures)
+returns c = reached_all (block c.args.toks.now) c.args.at c.loop-found.place c.loop-found.found c.loop-found.invariant
+    (subst (Longest (block c.args.toks.now) c.loop-found.place) c.in_default.is c.in_ok-block.ensures)

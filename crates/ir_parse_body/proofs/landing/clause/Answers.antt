@@ -5,7 +5,9 @@ use Rattle.ir_parse_body.proofs.LongestLanding.{clause_no_value, clause_ends}
 use Rattle.ir_parse_body.proofs.landing.clause.Goals as goal
 
 pub returns-in_default-2 : goal.returns-in_default-2
-returns-in_default-2 c = clause_no_value c.args.toks.now c.args.at c.in-Some.first c.in-Some.ensures.value (subst (Longest (tconst c.args.toks.now) c.in-Some.first) c.in_default-2.is c.in_ok-value.ensures)
+returns-in_default-2 c = clause_no_value c.args.toks.now c.args.at c.in-Some.first c.in-Some.ensures.value
+    (subst (Longest (tconst c.args.toks.now) c.in-Some.first) c.in_default-2.is c.in_ok-value.ensures)
 
 pub returns : goal.returns
-returns c = clause_ends c.args.toks.now c.args.at c.in-Some.first c.in-Some.ensures.value c.in-Some-2.value c.in-Some-2.next (subst (Longest (tconst c.args.toks.now) c.in-Some.first) c.in-Some-2.is c.in_ok-value.ensures)
+returns c = clause_ends c.args.toks.now c.args.at c.in-Some.first c.in-Some.ensures.value c.in-Some-2.value c.in-Some-2.next
+    (subst (Longest (tconst c.args.toks.now) c.in-Some.first) c.in-Some-2.is c.in_ok-value.ensures)

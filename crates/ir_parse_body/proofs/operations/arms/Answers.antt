@@ -16,19 +16,28 @@ loop-found-init c = ([], (search rules, reached_first (next c.args.toks.now (arm
 
 pub loop-found-smaller : goal.loop-found-smaller
 loop-found-smaller c =
-    let l = next_ends (arm_of c.args.toks.now) c.loop-found.place c.in-Some-2.next c.in-Some-2.arm (subst (Longest (next c.args.toks.now (arm c.args.toks.now)) c.loop-found.place) c.in-Some-2.is c.in_ok-arm.ensures) in
+    let l = next_ends (arm_of c.args.toks.now) c.loop-found.place c.in-Some-2.next c.in-Some-2.arm
+    (subst (Longest (next c.args.toks.now (arm c.args.toks.now)) c.loop-found.place) c.in-Some-2.is c.in_ok-arm.ensures) in
     omega (arith, l.0, l.1)
 
 pub loop-found-preserved : goal.loop-found-preserved
 loop-found-preserved c =
     let i = c.loop-found.invariant in
     let l = (subst (Longest (next c.args.toks.now (arm c.args.toks.now)) c.loop-found.place) c.in-Some-2.is c.in_ok-arm.ensures) in
-    let e : c.push-in-Some-2.new.self ≡ c.loop-found.found ++ c.in-Some-2.arm ∷ [] = search rules in
-    (i.0 ++ c.in-Some-2.arm ∷ [], (e ∙ ap (λ z. z ++ c.in-Some-2.arm ∷ []) i.1.0 ∙ append_assoc c.push.new.self i.0 (c.in-Some-2.arm ∷ []), reached_next (op.next_arm_of c.args.toks.now) refl c.in-Some.after c.loop-found.place c.in-Some-2.next i.0 c.in-Some-2.arm i.1.1 l))
+    let e : c.push-in-Some-2.new.self ≡ c.loop-found.found ++ c.in-Some-2.arm ∷ [] = search rules in (
+      i.0 ++ c.in-Some-2.arm ∷ [],
+      (
+        e ∙ ap (λ z. z ++ c.in-Some-2.arm ∷ []) i.1.0 ∙ append_assoc c.push.new.self i.0 (c.in-Some-2.arm ∷ []),
+        reached_next (op.next_arm_of c.args.toks.now) refl c.in-Some.after c.loop-found.place c.in-Some-2.next i.0 c.in-Some-2.arm i.1.1 l,
+      ),
+    )
 
 pub returns : goal.returns
 returns c =
     let i = c.loop-found.invariant in
     let e : c.push.new.self ≡ c.in-Some.first ∷ [] = search rules in
-    let rest = reached_all (next c.args.toks.now (arm c.args.toks.now)) c.in-Some.after c.loop-found.place i.0 i.1.1 (subst (Longest (next c.args.toks.now (arm c.args.toks.now)) c.loop-found.place) c.in_default-2.is c.in_ok-arm.ensures) in
-    subst (λ z. Longest (listed c.args.toks.now (arm c.args.toks.now)) c.args.at (Some (z, c.loop-found.place))) (sym (i.1.0 ∙ ap (λ z. z ++ i.0) e)) (op.arms_all c.args.toks.now c.args.at c.in-Some.after c.loop-found.place c.in-Some.first i.0 (subst (Longest (arm c.args.toks.now) c.args.at) c.in-Some.is c.in_ok-first.ensures) rest)
+    let rest = reached_all (next c.args.toks.now (arm c.args.toks.now)) c.in-Some.after c.loop-found.place i.0 i.1.1
+    (subst (Longest (next c.args.toks.now (arm c.args.toks.now)) c.loop-found.place) c.in_default-2.is c.in_ok-arm.ensures) in
+    subst (λ z. Longest (listed c.args.toks.now (arm c.args.toks.now)) c.args.at (Some (z, c.loop-found.place))) (sym (i.1.0 ∙
+    ap (λ z. z ++ i.0) e)) (op.arms_all c.args.toks.now c.args.at c.in-Some.after c.loop-found.place c.in-Some.first i.0
+    (subst (Longest (arm c.args.toks.now) c.args.at) c.in-Some.is c.in_ok-first.ensures) rest)

@@ -7,14 +7,17 @@ use Rattle.ir_parse_parts.proofs.attributes.rattrs.Goals as goal
 
 pub loop-found-smaller : goal.loop-found-smaller
 loop-found-smaller c =
-    let l = ends (rattr_of c.args.toks.now) refl c.loop-found.place c.in-Some.next c.in-Some.attribute (subst (Longest (rattr c.args.toks.now) c.loop-found.place) c.in-Some.is c.in_ok-attribute.ensures) in
+    let l = ends (rattr_of c.args.toks.now) refl c.loop-found.place c.in-Some.next c.in-Some.attribute
+    (subst (Longest (rattr c.args.toks.now) c.loop-found.place) c.in-Some.is c.in_ok-attribute.ensures) in
     omega (arith, l.0, l.1)
 
 pub loop-found-preserved : goal.loop-found-preserved
 loop-found-preserved c =
     let ts = c.args.toks.now in
     let e : c.push.new.self ≡ c.loop-found.found ++ c.in-Some.attribute ∷ [] = search rules in
-    subst (λ z. Reached (rattr ts) c.args.at z c.in-Some.next) (sym e) (reached_next (rattr_of ts) refl c.args.at c.loop-found.place c.in-Some.next c.loop-found.found c.in-Some.attribute c.loop-found.invariant (subst (Longest (rattr ts) c.loop-found.place) c.in-Some.is c.in_ok-attribute.ensures))
+    subst (λ z. Reached (rattr ts) c.args.at z c.in-Some.next) (sym e) (reached_next (rattr_of ts) refl c.args.at c.loop-found.place c.in-Some.next
+    c.loop-found.found c.in-Some.attribute c.loop-found.invariant (subst (Longest (rattr ts) c.loop-found.place) c.in-Some.is c.in_ok-attribute.ensures))
 
 pub returns : goal.returns
-returns c = reached_all (rattr c.args.toks.now) c.args.at c.loop-found.place c.loop-found.found c.loop-found.invariant (subst (Longest (rattr c.args.toks.now) c.loop-found.place) c.in_default.is c.in_ok-attribute.ensures)
+returns c = reached_all (rattr c.args.toks.now) c.args.at c.loop-found.place c.loop-found.found c.loop-found.invariant
+    (subst (Longest (rattr c.args.toks.now) c.loop-found.place) c.in_default.is c.in_ok-attribute.ensures)

@@ -7,14 +7,17 @@ use Rattle.ir_parse_parts.proofs.attributes.words.Goals as goal
 
 pub loop-found-smaller : goal.loop-found-smaller
 loop-found-smaller c =
-    let l = ends (word_of c.args.toks.now) refl c.loop-found.place c.in-Some.next c.in-Some.part (subst (Longest (word c.args.toks.now) c.loop-found.place) c.in-Some.is c.in_ok-part.ensures) in
+    let l = ends (word_of c.args.toks.now) refl c.loop-found.place c.in-Some.next c.in-Some.part (subst (Longest (word c.args.toks.now) c.loop-found.place)
+    c.in-Some.is c.in_ok-part.ensures) in
     omega (arith, l.0, l.1)
 
 pub loop-found-preserved : goal.loop-found-preserved
 loop-found-preserved c =
     let ts = c.args.toks.now in
     let e : c.push.new.self ≡ c.loop-found.found ++ c.in-Some.part ∷ [] = search rules in
-    subst (λ z. Reached (word ts) c.args.at z c.in-Some.next) (sym e) (reached_next (word_of ts) refl c.args.at c.loop-found.place c.in-Some.next c.loop-found.found c.in-Some.part c.loop-found.invariant (subst (Longest (word ts) c.loop-found.place) c.in-Some.is c.in_ok-part.ensures))
+    subst (λ z. Reached (word ts) c.args.at z c.in-Some.next) (sym e) (reached_next (word_of ts) refl c.args.at c.loop-found.place c.in-Some.next
+    c.loop-found.found c.in-Some.part c.loop-found.invariant (subst (Longest (word ts) c.loop-found.place) c.in-Some.is c.in_ok-part.ensures))
 
 pub returns : goal.returns
-returns c = reached_all (word c.args.toks.now) c.args.at c.loop-found.place c.loop-found.found c.loop-found.invariant (subst (Longest (word c.args.toks.now) c.loop-found.place) c.in_default.is c.in_ok-part.ensures)
+returns c = reached_all (word c.args.toks.now) c.args.at c.loop-found.place c.loop-found.found c.loop-found.invariant
+    (subst (Longest (word c.args.toks.now) c.loop-found.place) c.in_default.is c.in_ok-part.ensures)

@@ -45,7 +45,8 @@ abbrev pub decreases-binop : goal.decreases-binop
 decreases-binop l = 8 * (length l.toks.now - l.start)
 
 abbrev pub invariant-more_tconsts-loop-found : goal.invariant-more_tconsts-loop-found
-invariant-more_tconsts-loop-found l = (l.at ≤ l.place) × ((ts : List Tconst) × ((l.found ≡ l.fn.found ++ ts) × Reached (next l.toks (tconst l.toks)) l.at ts l.place))
+invariant-more_tconsts-loop-found l = (l.at ≤ l.place) ×
+    ((ts : List Tconst) × ((l.found ≡ l.fn.found ++ ts) × Reached (next l.toks (tconst l.toks)) l.at ts l.place))
 
 abbrev pub decreases-more_tconsts-loop-found : goal.decreases-more_tconsts-loop-found
 decreases-more_tconsts-loop-found l = length l.toks - l.place

@@ -31,4 +31,19 @@ pub returns-in-Some-the-8-clause-some : goal.returns-in-Some-the-8-clause-some
 returns-in-Some-the-8-clause-some c = constants.const_cstr c.args.toks.now c.args.at c.in-Some-the-8.next c.in-Some-the-8.ensures.value
 
 pub returns-clause-none : goal.returns-clause-none
-returns-clause-none c = λ _. none_stands c.args.toks.now c.args.at constant_words (c.in_default.ensures.value, (c.in_default-the.ensures.value, (c.in_default-the-2.ensures.value, (c.in_default-the-3.ensures.value, (c.in_default-the-4.ensures.value, (c.in_default-the-5.ensures.value, (c.in_default-the-6.ensures.value, (c.in_default-the-7.ensures.value, (c.in_default-the-8.ensures.value, tt)))))))))
+returns-clause-none c = λ _. none_stands c.args.toks.now c.args.at constant_words (
+  c.in_default.ensures.value,
+  (
+    c.in_default-the.ensures.value,
+    (
+      c.in_default-the-2.ensures.value,
+      (
+        c.in_default-the-3.ensures.value,
+        (
+          c.in_default-the-4.ensures.value,
+          (c.in_default-the-5.ensures.value, (c.in_default-the-6.ensures.value, (c.in_default-the-7.ensures.value, (c.in_default-the-8.ensures.value, tt)))),
+        ),
+      ),
+    ),
+  ),
+)

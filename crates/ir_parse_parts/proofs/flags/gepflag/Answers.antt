@@ -8,4 +8,5 @@ pub returns-in-Some-clause-fits : goal.returns-in-Some-clause-fits
 returns-in-Some-clause-fits c = flag_word c.args.toks.now c.args.at c.in-Some.next c.in-Some.ensures.value
 
 pub returns-in-None-clause-fits : goal.returns-in-None-clause-fits
-returns-in-None-clause-fits c = flag_none c.args.toks.now c.args.at c.in_default.ensures.value (subst (Longest (in_range c.args.toks.now) c.args.at) c.in-None.is c.in_range.ensures.fits)
+returns-in-None-clause-fits c =
+    flag_none c.args.toks.now c.args.at c.in_default.ensures.value (subst (Longest (in_range c.args.toks.now) c.args.at) c.in-None.is c.in_range.ensures.fits)

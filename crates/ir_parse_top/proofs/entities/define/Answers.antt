@@ -9,7 +9,8 @@ use Rattle.ir_parse_top.proofs.LongestEntities.{define_no_header, define_no_body
 use Rattle.ir_parse_top.proofs.entities.define.Goals as goal
 
 pub returns-in_default : goal.returns-in_default
-returns-in_default c = define_no_header c.args.toks.now c.args.start c.args.first (sym c.requires.after) (subst (Longest (header c.args.toks.now) c.args.first) c.in_default.is c.in_ok-header.ensures)
+returns-in_default c = define_no_header c.args.toks.now c.args.start c.args.first (sym c.requires.after) (subst (Longest (header c.args.toks.now) c.args.first)
+    c.in_default.is c.in_ok-header.ensures)
 
 pub returns-in_default-2 : goal.returns-in_default-2
 returns-in_default-2 c =

@@ -6,7 +6,9 @@ pub returns-in_default : goal.returns-in_default
 returns-in_default c = filename_no_equals c.args.toks.now c.args.start c.args.first (sym c.requires.after) c.in_default.ensures.value
 
 pub returns-in_default-the : goal.returns-in_default-the
-returns-in_default-the c = filename_no_name c.args.toks.now c.args.start c.args.first (sym c.requires.after) c.in-Some.name c.in-Some.ensures.value c.in_default-the.ensures.value
+returns-in_default-the c = filename_no_name c.args.toks.now c.args.start c.args.first (sym c.requires.after) c.in-Some.name c.in-Some.ensures.value
+    c.in_default-the.ensures.value
 
 pub returns : goal.returns
-returns c = filename_ends c.args.toks.now c.args.start c.args.first (sym c.requires.after) c.in-Some.name c.in-Some.ensures.value c.in-Some-the.next c.in-Some-the.ensures.value
+returns c = filename_ends c.args.toks.now c.args.start c.args.first (sym c.requires.after) c.in-Some.name c.in-Some.ensures.value c.in-Some-the.next
+    c.in-Some-the.ensures.value

@@ -16,7 +16,8 @@ pub loop-tail-preserved : goal.loop-tail-preserved
 loop-tail-preserved c =
     let ts = c.args.toks.now in
     let e : c.push.new.self ≡ c.loop-tail.found ++ c.in-Some.tail ∷ [] = search rules in
-    subst (λ z. Reached (next ts (gtail ts)) c.args.at z c.in-Some.next) (sym e) (reached_next (next_gtail_of ts) refl c.args.at c.loop-tail.place c.in-Some.next c.loop-tail.found c.in-Some.tail c.loop-tail.invariant c.in-Some.ensures)
+    subst (λ z. Reached (next ts (gtail ts)) c.args.at z c.in-Some.next) (sym e) (reached_next (next_gtail_of ts) refl c.args.at c.loop-tail.place
+    c.in-Some.next c.loop-tail.found c.in-Some.tail c.loop-tail.invariant c.in-Some.ensures)
 
 pub returns : goal.returns
 returns c = reached_all (next c.args.toks.now (gtail c.args.toks.now)) c.args.at c.loop-tail.place c.loop-tail.found c.loop-tail.invariant c.in_default.ensures

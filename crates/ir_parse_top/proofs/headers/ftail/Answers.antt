@@ -6,16 +6,28 @@ use Rattle.ir_parse_top.proofs.LongestHeaders.{ftail_section, ftail_partition, f
 use Rattle.ir_parse_top.proofs.headers.ftail.Goals as goal
 
 pub returns-in-Some : goal.returns-in-Some
-returns-in-Some c = ftail_section c.args.toks.now c.args.at c.in-Some.next (c.in-Some.word, c.in-Some.name) (subst (Longest (leaf_pair c.args.toks.now k.Section k.Str) c.args.at) c.in-Some.is c.leaf_pair.ensures)
+returns-in-Some c = ftail_section c.args.toks.now c.args.at c.in-Some.next (
+  c.in-Some.word,
+  c.in-Some.name,
+) (subst (Longest (leaf_pair c.args.toks.now k.Section k.Str) c.args.at) c.in-Some.is c.leaf_pair.ensures)
 
 pub returns-in-Some-leaf_pair : goal.returns-in-Some-leaf_pair
-returns-in-Some-leaf_pair c = ftail_partition c.args.toks.now c.args.at c.in-Some-leaf_pair.next (c.in-Some-leaf_pair.word, c.in-Some-leaf_pair.name) (subst (Longest (leaf_pair c.args.toks.now k.Partition k.Str) c.args.at) c.in-Some-leaf_pair.is c.leaf_pair-2.ensures)
+returns-in-Some-leaf_pair c = ftail_partition c.args.toks.now c.args.at c.in-Some-leaf_pair.next (
+  c.in-Some-leaf_pair.word,
+  c.in-Some-leaf_pair.name,
+) (subst (Longest (leaf_pair c.args.toks.now k.Partition k.Str) c.args.at) c.in-Some-leaf_pair.is c.leaf_pair-2.ensures)
 
 pub returns-in-Some-leaf_pair-2 : goal.returns-in-Some-leaf_pair-2
-returns-in-Some-leaf_pair-2 c = ftail_gc c.args.toks.now c.args.at c.in-Some-leaf_pair-2.next (c.in-Some-leaf_pair-2.word, c.in-Some-leaf_pair-2.name) (subst (Longest (leaf_pair c.args.toks.now k.Gc k.Str) c.args.at) c.in-Some-leaf_pair-2.is c.leaf_pair-3.ensures)
+returns-in-Some-leaf_pair-2 c = ftail_gc c.args.toks.now c.args.at c.in-Some-leaf_pair-2.next (
+  c.in-Some-leaf_pair-2.word,
+  c.in-Some-leaf_pair-2.name,
+) (subst (Longest (leaf_pair c.args.toks.now k.Gc k.Str) c.args.at) c.in-Some-leaf_pair-2.is c.leaf_pair-3.ensures)
 
 pub returns-in-Some-leaf_pair-3 : goal.returns-in-Some-leaf_pair-3
-returns-in-Some-leaf_pair-3 c = ftail_align c.args.toks.now c.args.at c.in-Some-leaf_pair-3.next (c.in-Some-leaf_pair-3.word, c.in-Some-leaf_pair-3.bytes) (subst (Longest (leaf_pair c.args.toks.now k.Align k.Int) c.args.at) c.in-Some-leaf_pair-3.is c.leaf_pair-4.ensures)
+returns-in-Some-leaf_pair-3 c = ftail_align c.args.toks.now c.args.at c.in-Some-leaf_pair-3.next (
+  c.in-Some-leaf_pair-3.word,
+  c.in-Some-leaf_pair-3.bytes,
+) (subst (Longest (leaf_pair c.args.toks.now k.Align k.Int) c.args.at) c.in-Some-leaf_pair-3.is c.leaf_pair-4.ensures)
 
 pub returns-in-Some-comdat : goal.returns-in-Some-comdat
 returns-in-Some-comdat c = ftail_comdat c.args.toks.now c.args.at c.in-Some-comdat.next c.in-Some-comdat.found c.in-Some-comdat.ensures
@@ -24,7 +36,12 @@ pub returns-in-Some-attach : goal.returns-in-Some-attach
 returns-in-Some-attach c = ftail_attach c.args.toks.now c.args.at c.in-Some-attach.next c.in-Some-attach.found c.in-Some-attach.ensures
 
 pub returns : goal.returns
-returns c = ftail_extra c.args.toks.now c.args.at c.in-Some-2.next c.in-Some-2.tail (subst (Longest (extra c.args.toks.now) c.args.at) c.in-Some-2.is c.in_ok-tail.ensures)
+returns c = ftail_extra c.args.toks.now c.args.at c.in-Some-2.next c.in-Some-2.tail (subst (Longest (extra c.args.toks.now) c.args.at) c.in-Some-2.is
+    c.in_ok-tail.ensures)
 
 pub returns-in_default-2 : goal.returns-in_default-2
-returns-in_default-2 c = ftail_none c.args.toks.now c.args.at (subst (Longest (leaf_pair c.args.toks.now k.Section k.Str) c.args.at) c.in_default.is c.leaf_pair.ensures) (subst (Longest (leaf_pair c.args.toks.now k.Partition k.Str) c.args.at) c.in_default-leaf_pair.is c.leaf_pair-2.ensures) (subst (Longest (leaf_pair c.args.toks.now k.Gc k.Str) c.args.at) c.in_default-leaf_pair-2.is c.leaf_pair-3.ensures) (subst (Longest (leaf_pair c.args.toks.now k.Align k.Int) c.args.at) c.in_default-leaf_pair-3.is c.leaf_pair-4.ensures) c.in_default-comdat.ensures c.in_default-attach.ensures (subst (Longest (extra c.args.toks.now) c.args.at) c.in_default-2.is c.in_ok-tail.ensures)
+returns-in_default-2 c = ftail_none c.args.toks.now c.args.at (subst (Longest (leaf_pair c.args.toks.now k.Section k.Str) c.args.at) c.in_default.is
+    c.leaf_pair.ensures) (subst (Longest (leaf_pair c.args.toks.now k.Partition k.Str) c.args.at) c.in_default-leaf_pair.is c.leaf_pair-2.ensures)
+    (subst (Longest (leaf_pair c.args.toks.now k.Gc k.Str) c.args.at) c.in_default-leaf_pair-2.is c.leaf_pair-3.ensures)
+    (subst (Longest (leaf_pair c.args.toks.now k.Align k.Int) c.args.at) c.in_default-leaf_pair-3.is c.leaf_pair-4.ensures) c.in_default-comdat.ensures
+    c.in_default-attach.ensures (subst (Longest (extra c.args.toks.now) c.args.at) c.in_default-2.is c.in_ok-tail.ensures)

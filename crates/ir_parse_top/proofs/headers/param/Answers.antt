@@ -10,4 +10,5 @@ returns-in_default c = param_no_type c.args.toks.now c.args.at (subst (Longest (
 pub returns : goal.returns
 returns c =
     let ts = c.args.toks.now in
-    param_ends ts c.args.at c.in-Some.first c.in_ok-words.behind c.optional-name.result.1 c.in-Some.kind c.in_ok-words.words c.optional-name.result.0 (subst (Longest (ty ts) c.args.at) c.in-Some.is c.in_ok-kind.ensures) c.in_ok-words.ensures c.optional-name.ensures
+    param_ends ts c.args.at c.in-Some.first c.in_ok-words.behind c.optional-name.result.1 c.in-Some.kind c.in_ok-words.words c.optional-name.result.0
+    (subst (Longest (ty ts) c.args.at) c.in-Some.is c.in_ok-kind.ensures) c.in_ok-words.ensures c.optional-name.ensures

@@ -12,7 +12,13 @@ entities-requires c =
     let toks = c.args.toks.now in
     let same : c.as_slice.result.now ≡ terminals text toks = c.as_slice.ensures.value ∙ c.in_ok-terminals.ensures in
     let small : length text ≤ 67108864 = c.requires.small in
-    let few : length c.as_slice.result.now < 2 ^ 32 = omega (arith, ap length same, length-map toks (terminal text), tokens_count text toks c.requires.tokens, small) in
+    let few : length c.as_slice.result.now < 2 ^ 32 = omega (
+      arith,
+      ap length same,
+      length-map toks (terminal text),
+      tokens_count text toks c.requires.tokens,
+      small,
+    ) in
     record { few = few }
 
 pub returns-then-stop-len-clause-syntax : goal.returns-then-stop-len-clause-syntax
@@ -33,5 +39,13 @@ returns-clause-fits c =
     let text = c.args.text.now in
     let toks = c.args.toks.now in
     let same : c.as_slice.result.now ≡ terminals text toks = c.as_slice.ensures.value ∙ c.in_ok-terminals.ensures in
-    let end : c.in_ok-entities.stop ≡ length (terminals text toks) = omega (arith, c.if-stop-len.false, c.len.ensures, c.in_ok-entities.ensures.within, ap length same, length-map toks (terminal text)) in
-    subst (λ z. Taken (entity (terminals text toks)) c.in_ok-entities.entities 0 z) end (subst (λ ts. Taken (entity ts) c.in_ok-entities.entities 0 c.in_ok-entities.stop) same c.in_ok-entities.ensures.taken)
+    let end : c.in_ok-entities.stop ≡ length (terminals text toks) = omega (
+      arith,
+      c.if-stop-len.false,
+      c.len.ensures,
+      c.in_ok-entities.ensures.within,
+      ap length same,
+      length-map toks (terminal text),
+    ) in
+    subst (λ z. Taken (entity (terminals text toks)) c.in_ok-entities.entities 0 z) end
+    (subst (λ ts. Taken (entity ts) c.in_ok-entities.entities 0 c.in_ok-entities.stop) same c.in_ok-entities.ensures.taken)

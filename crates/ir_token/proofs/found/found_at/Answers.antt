@@ -6,7 +6,10 @@ pub bears_name-requires-clause-is : goal.bears_name-requires-clause-is
 bears_name-requires-clause-is c = (longest_here c.args.text.now c.args.at c.in-Token.kind c.in-Token.end c.requires.inside c.in-Token.ensures).text
 
 pub returns-then-bears_name : goal.returns-then-bears_name
-returns-then-bears_name c = record { longest = longest_here c.args.text.now c.args.at c.in-Token.kind c.in-Token.end c.requires.inside c.in-Token.ensures; named = sym c.bears_name.ensures ∙ c.if-bears_name.true }
+returns-then-bears_name c = record {
+  longest = longest_here c.args.text.now c.args.at c.in-Token.kind c.in-Token.end c.requires.inside c.in-Token.ensures;
+  named = sym c.bears_name.ensures ∙ c.if-bears_name.true;
+}
 
 pub returns-else-bears_name : goal.returns-else-bears_name
 returns-else-bears_name c = nameless c.args.text.now c.args.at c.in-Token.kind c.in-Token.end c.requires.inside c.in-Token.ensures

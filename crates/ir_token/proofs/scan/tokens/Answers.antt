@@ -1,4 +1,5 @@
-use Rattle.std.proofs.Common.{◌≡◌, ◌+◌, ◌<◌, ◌≤◌, Bool, true, false, length, Ok, Err, refl, sym, ap, ◌∙◌, subst, arith}
+use Rattle.std.proofs.Common.{◌≡◌, ◌+◌, ◌<◌, ◌≤◌, true, false, length, Ok, Err, refl, sym, ap, ◌∙◌, subst, arith}
+use Rattle.std.proofs.lemmas.Bool.{both_ways}
 use Rattle.ir_token.specs.declared.TheConstants.{MAX_TOKENS}
 use Rattle.ir_token.specs.declared.token.LexRefusal.TheVariants.{BadByte, OpenString, LeftOut, TooMany}
 use Rattle.ir_token.specs.Bytes.{is_label}
@@ -13,9 +14,6 @@ use Rattle.ir_token.proofs.Chains.{IsScanned, scanned_kept, scanned_counted, run
 use Rattle.ir_token.proofs.Unique.{tells_all, token_moves}
 use Rattle.ir_token.proofs.scan.tokens.Goals as goal
 use Rattle.ir_token.proofs.scan.tokens.Goals.{then-run-at, else-run-at, then-count-lt-MAX_TOKENS+in_ok-push, else-count-lt-MAX_TOKENS}
-
-both : (b : Bool) → b ≡ true → b ≡ false → ⊥
-both b yes_it_is no_it_is = cc
 
 pub returns-in-Bad-clause-only : goal.returns-in-Bad-clause-only
 returns-in-Bad-clause-only c =
@@ -38,8 +36,8 @@ loop-at-preserved c =
     let read = c.loop-at.invariant.0 in
     let token : IsToken c.args.text.now c.loop-at.at c.in-Token.kind c.in-Token.end = c.in-Token.ensures in
     let moves : c.loop-at.at < c.in-Token.end = token_moves c.args.text.now c.loop-at.at c.in-Token.kind c.in-Token.end token in
-    let kept = λ (left : IsLeft c.args.text.now c.loop-at.at c.in-Token.kind c.in-Token.end). both c.is_left.result
-    (c.is_left.ensures.1 left) c.if-is_left.false in
+    let kept = λ (left : IsLeft c.args.text.now c.loop-at.at c.in-Token.kind c.in-Token.end). both_ways c.is_left.result c.if-is_left.false
+    (c.is_left.ensures.1 left) in
     let gap = sym c.past_gap-at-in-loop-at.ensures.value in
     let run : c.if-run-at.run ≡ past is_label c.args.text.now c.loop-at.at = elim c.if-run-at.branch [
       | then-run-at w ↦ w.run-is
@@ -56,7 +54,8 @@ loop-at-preserved c =
       | else-count-lt-MAX_TOKENS w ↦ subst
           (λ items. IsScanned MAX_TOKENS c.args.text.now items (c.loop-at.count + 1) (past_gap c.args.text.now c.in-Token.end))
           (sym (ap (λ v. v.items) w.items-is))
-          (scanned_counted MAX_TOKENS c.args.text.now c.loop-at.items.items c.loop-at.count c.loop-at.at c.in-Token.kind c.in-Token.end w.if-count-lt-MAX_TOKENS.false read token kept)
+          (scanned_counted MAX_TOKENS c.args.text.now c.loop-at.items.items c.loop-at.count c.loop-at.at c.in-Token.kind c.in-Token.end
+          w.if-count-lt-MAX_TOKENS.false read token kept)
     ] in (
       subst (λ at. IsScanned MAX_TOKENS c.args.text.now c.if-count-lt-MAX_TOKENS.items.items (c.loop-at.count + 1) at) gap scanned,
       c.past_gap-at-in-loop-at.ensures.within.1,

@@ -1,10 +1,10 @@
 use Rattle.std.proofs.Common.{◌≡◌, ◌+◌, ◌<◌, length, take, drop, slice_get, List, Bool, ◌≤◌, Some, None, arith, subst, sym}
 use Rattle.std.specs.List.{list_any}
 use Rattle.std.proofs.lemmas.List.{take_all}
+use Rattle.shelf.proofs.Shelf.{get_there}
 use Rattle.ir_module.specs.declared.op.Written.{Written}
 use Rattle.ir_module.specs.Operands.{operands}
 use Rattle.ir_module.specs.Calls.{names}
-use Rattle.ir_module.proofs.Runs.{there}
 use Rattle.ir_uses.specs.Raised.{Raises}
 use Rattle.ir_uses.proofs.Raising.{raised_from}
 use Rattle.ir_uses.proofs.taken.mark_instr.Goals as goal
@@ -22,7 +22,7 @@ loop-at-preserved c =
           subst (λ (fs : List Bool). Raises c.args.flags.now fs (λ f. list_any (names f) (drop c.first_taker-first.result (take (c.loop-at.at + 1) ops))))
           (sym w.flags-is) all)
       | in_default w ↦
-          (let q = there ops c.loop-at.at inside in
+          (let q = get_there ops c.loop-at.at inside in
           let found : slice_get ops c.loop-at.at ≡ Some q.0 = q.1 in
           let none : None ≡ slice_get ops c.loop-at.at = w.in_default.ensures in
           let clash : ⊥ = cc in

@@ -15,14 +15,19 @@ loop-rung-preserved c =
     let needed = c.saturating_add.result in
     let stays : c.if-lowest-lt-BYTE_RUNGS.stays ≡ shifted_bit offset w (23 + rung) =
     elim c.if-lowest-lt-BYTE_RUNGS.branch [
-      | then-lowest-lt-BYTE_RUNGS t ↦ stays_found offset w rung lowest.result needed _ (omega arith) (omega arith) t.if-lowest-lt-BYTE_RUNGS.true lowest.ensures.below (lowest.ensures.enough t.if-lowest-lt-BYTE_RUNGS.true) (t.stays-is ∙ t.has-stays.ensures)
-      | else-lowest-lt-BYTE_RUNGS t ↦ stays_not offset w rung lowest.result needed _ (omega arith) (omega arith) (omega arith) lowest.ensures.below (t.stays-is ∙ le-ltb lowest.result 16 (omega arith))
+      | then-lowest-lt-BYTE_RUNGS t ↦
+          stays_found offset w rung lowest.result needed _ (omega arith) (omega arith) t.if-lowest-lt-BYTE_RUNGS.true lowest.ensures.below
+          (lowest.ensures.enough t.if-lowest-lt-BYTE_RUNGS.true) (t.stays-is ∙ t.has-stays.ensures)
+      | else-lowest-lt-BYTE_RUNGS t ↦
+          stays_not offset w rung lowest.result needed _ (omega arith) (omega arith) (omega arith) lowest.ensures.below (t.stays-is ∙
+          le-ltb lowest.result 16 (omega arith))
     ] in
     record {
       within = lowest.ensures.within;
       below = λ j above on k l. omega (arith, lowest.ensures.below k l, rungs_rise rung j (omega arith) on);
       fits = c.put-shifted.type_inv;
-      bits = done_more (shifted_bit offset w) 23 rung w c.loop-rung.shifted c.put-shifted.result (omega arith) c.loop-rung.invariant.bits (c.put-shifted.ensures.here ∙ ap bit_of stays) c.put-shifted.ensures.others;
+      bits = done_more (shifted_bit offset w) 23 rung w c.loop-rung.shifted c.put-shifted.result (omega arith) c.loop-rung.invariant.bits
+          (c.put-shifted.ensures.here ∙ ap bit_of stays) c.put-shifted.ensures.others;
     }
 
 -- the loop ends past the last rung

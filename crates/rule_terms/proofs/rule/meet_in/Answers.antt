@@ -16,7 +16,8 @@ returns-then-is_err-clause-pool c =
     record {
       pool = record {
         fits = on.pool.fits;
-        marked = rw c.truncate.ensures.items (marked_front (take before all) (drop before all) marks (subst (λ l. IsMarked l marks) (sym (take-append-drop before all)) on.pool.marked));
+        marked = rw c.truncate.ensures.items (marked_front (take before all) (drop before all) marks
+            (subst (λ l. IsMarked l marks) (sym (take-append-drop before all)) on.pool.marked));
         ordered = on.pool.ordered;
       };
       slots = on.slots;
@@ -27,8 +28,10 @@ returns-then-is_err-clause-pool c =
 back : (c : After-truncate-then-is_err) → c.truncate-then-is_err.new.self ≡ c.args.rows.now
 back c =
     let widened = from_err c.put_met-met.result (sym c.is_err.ensures.value ∙ c.if-is_err.true) c.put_met-met.ensures.widened in
-    let inputs : c.len-before.result ≡ length (row_at c.args.rows.now c.args.p.0).positions = c.len-before.ensures ∙ c.args.pool.now.inputs.ok.0 ∙ ap length c.requires.opened in
-    cut_back c.args.rows.now c.put_met-met.new.rows c.truncate-then-is_err.new.self c.args.p.0 c.len-before.result c.requires.place widened inputs (inputs ∙ sym c.requires.reads) c.truncate-then-is_err.ensures
+    let inputs : c.len-before.result ≡ length (row_at c.args.rows.now c.args.p.0).positions = c.len-before.ensures ∙ c.args.pool.now.inputs.ok.0 ∙
+    ap length c.requires.opened in
+    cut_back c.args.rows.now c.put_met-met.new.rows c.truncate-then-is_err.new.self c.args.p.0 c.len-before.result c.requires.place widened inputs (inputs ∙
+    sym c.requires.reads) c.truncate-then-is_err.ensures
 
 pub returns-then-is_err-clause-rows : goal.returns-then-is_err-clause-rows
 returns-then-is_err-clause-rows c =

@@ -20,13 +20,15 @@ loop-j-preserved c =
     elim c.if-read_by-lost-ne0.branch [
       | then-read_by-lost-ne0 w ↦ (
         ap (λ v. v.items) w.list-is ∙ w.push_reserved.ensures.items ∙ ap (λ xs. xs ++ d ∷ []) c.loop-j.invariant.0 ∙
-            sym (reader_added c.args.lost ds reads j d z l c.requires.reads at (λ e. w.if-read_by-lost-ne0.true (ap (λ b. bit_and b c.args.lost) c.read_by.ensures ∙ e))),
+            sym (reader_added c.args.lost ds reads j d z l c.requires.reads at
+            (λ e. w.if-read_by-lost-ne0.true (ap (λ b. bit_and b c.args.lost) c.read_by.ensures ∙ e))),
         grind (arith, w.list-is, w.push_reserved.ensures.items, c.loop-j.invariant.1, length_push),
         ap vec_capacity w.list-is ∙ w.push_reserved.ensures.capacity ∙ c.loop-j.invariant.2,
       )
       | else-read_by-lost-ne0 w ↦ (
         ap (λ v. v.items) w.list-is ∙ c.loop-j.invariant.0 ∙
-            sym (reader_kept c.args.lost ds reads j d z l c.requires.reads at (ap (λ b. bit_and b c.args.lost) (sym c.read_by.ensures) ∙ w.if-read_by-lost-ne0.false)),
+            sym (reader_kept c.args.lost ds reads j d z l c.requires.reads at (ap (λ b. bit_and b c.args.lost) (sym c.read_by.ensures) ∙
+            w.if-read_by-lost-ne0.false)),
         omega (arith, ap (λ v. length v.items) w.list-is, c.loop-j.invariant.1),
         ap vec_capacity w.list-is ∙ c.loop-j.invariant.2,
       )

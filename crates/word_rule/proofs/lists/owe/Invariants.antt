@@ -5,4 +5,5 @@ use Rattle.fix_core.specs.Machine.{readers_of}
 use Rattle.word_rule.proofs.lists.owe.Given as goal
 
 abbrev pub invariant-loop-j : goal.invariant-loop-j
-invariant-loop-j l = (l.list.items ≡ readers_of l.lost (take l.j (row_at l.g l.p.0).dependents) (take l.j (row_at l.g l.p.0).reads)) × (length l.list.items ≤ l.j) × (vec_capacity l.list ≡ vec_capacity l.fn.list)
+invariant-loop-j l = (l.list.items ≡ readers_of l.lost (take l.j (row_at l.g l.p.0).dependents) (take l.j (row_at l.g l.p.0).reads)) ×
+    (length l.list.items ≤ l.j) × (vec_capacity l.list ≡ vec_capacity l.fn.list)

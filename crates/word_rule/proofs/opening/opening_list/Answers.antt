@@ -15,5 +15,6 @@ loop-p-preserved c =
     let masks : List ℕ = c.args.s.now.masks in
     let next : List ℕ = opening_words workers 0 (take p masks) ++ bit_or c.mask.result bit ∷ [] in
     let before : c.push.new.self.items ≡ next = c.in_ok-push.ensures.items ∙ ap (λ (xs : List ℕ). xs ++ bit_or c.mask.result bit ∷ []) c.loop-p.invariant in
-    let after : next ≡ opening_words workers 0 (take (p + 1) masks) = opening_more workers masks p c.mask.result bit inside c.mask.ensures.mask (own_bit (p % workers) (p % workers) refl few) in
+    let after : next ≡ opening_words workers 0 (take (p + 1) masks) =
+    opening_more workers masks p c.mask.result bit inside c.mask.ensures.mask (own_bit (p % workers) (p % workers) refl few) in
     before ∙ after

@@ -10,7 +10,8 @@ use Rattle.workers.proofs.turn.look_all.Goals as goal
 pub overflow_cast-i : goal.overflow_cast-i
 overflow_cast-i c =
     let s = system_in c.args.words.now in
-    let width : length c.inputs-inputs.result.now ≡ length (inputs_of s c.args.p.0) = ap length c.inputs-inputs.ensures ∙ ap (λ (x : System). length (inputs_of x c.args.p.0)) c.system.ensures in
+    let width : length c.inputs-inputs.result.now ≡ length (inputs_of s c.args.p.0) = ap length c.inputs-inputs.ensures ∙
+    ap (λ (x : System). length (inputs_of x c.args.p.0)) c.system.ensures in
     let few : length (inputs_of s c.args.p.0) ≤ length s.masks = inputs_few s c.requires.system c.args.p.0 in
     omega (arith, few, c.requires.system.fits, c.loop-i-test.true, width)
 
@@ -20,7 +21,8 @@ loop-i-preserved c =
     let old : CoreSeat = core_of c.loop-i.seat in
     let new : CoreSeat = core_of c.look.new.seat in
     let has = c.loop-i.invariant.2 in
-    let width : length c.inputs-inputs.result.now ≡ length (inputs_of s c.args.p.0) = ap length c.inputs-inputs.ensures ∙ ap (λ (x : System). length (inputs_of x c.args.p.0)) c.system.ensures in
+    let width : length c.inputs-inputs.result.now ≡ length (inputs_of s c.args.p.0) = ap length c.inputs-inputs.ensures ∙
+    ap (λ (x : System). length (inputs_of x c.args.p.0)) c.system.ensures in
     let inside : c.loop-i.i < length (inputs_of s c.args.p.0) = omega (arith, c.loop-i-test.true, width) in (
       omega (arith, c.loop-i-test.true),
       same_then c.args.seat.now c.loop-i.seat c.look.new.seat c.loop-i.invariant.1 c.look.ensures.same,

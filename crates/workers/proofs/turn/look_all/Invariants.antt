@@ -6,4 +6,5 @@ use Rattle.workers.specs.Workers.{HasOpen}
 use Rattle.workers.proofs.turn.look_all.Given as goal
 
 abbrev pub invariant-loop-i : goal.invariant-loop-i
-invariant-loop-i l = (l.i ≤ l.inputs) × IsSameSeat l.fn.seat l.seat × HasOpen (system_in l.words) l.fn.p (core_of l.seat) × (has_all (take l.i (looked_in (core_of l.seat).mode)) ≡ true) × ((core_of l.seat).took ≡ (core_of l.fn.seat).took)
+invariant-loop-i l = (l.i ≤ l.inputs) × IsSameSeat l.fn.seat l.seat × HasOpen (system_in l.words) l.fn.p (core_of l.seat) ×
+    (has_all (take l.i (looked_in (core_of l.seat).mode)) ≡ true) × ((core_of l.seat).took ≡ (core_of l.fn.seat).took)

@@ -24,7 +24,8 @@ returns c =
     let within = laid.within i row at in
     let old : List ℕ = listed bs row in
     let count : length old ≡ row.len = length-take-le row.len (drop row.from bs) (omega (arith, within.0, within.1, long, length-drop row.from bs)) in
-    let is : edges_at ps bs row ≡ row_at c.args.self.now i = sym (got_map (edges_at ps bs) rows i row empty_row at) ∙ ap (λ shown. row_at shown i) c.self.view_is in
+    let is : edges_at ps bs row ≡ row_at c.args.self.now i = sym (got_map (edges_at ps bs) rows i row empty_row at) ∙
+    ap (λ shown. row_at shown i) c.self.view_is in
     let size : row.from + row.len - row.from ≡ row.len = omega arith in
     let now : c.part_mut.result.now ≡ old = c.part_mut.ensures.value ∙ ap (λ n. take n (drop row.from bs)) size in (
       (

@@ -14,5 +14,6 @@ returns-clause-ok c =
     let row = c.in_ok-row.row in
     let made = c.in_ok-row.ensures in
     let same : c.index_mut-3.result.now ≡ row = c.index_mut-3.ensures.value ∙ get_or_from_slice_get rows i row c.index_mut-3.result.now made.room.0 in
-    edges_pushed ps bs rows (row.from + row.len) c.args.position c.args.bits i row _ made.laid made.long made.room.0 made.room.1 refl (ap (λ (r : Row). r.from) same) refl
+    edges_pushed ps bs rows (row.from + row.len) c.args.position c.args.bits i row _ made.laid made.long made.room.0 made.room.1 refl
+    (ap (λ (r : Row). r.from) same) refl
     ∙ ap (λ shown. slice_set shown i (with_edge (row_at shown i) c.args.position c.args.bits)) (made.lists ∙ c.self.view_is)

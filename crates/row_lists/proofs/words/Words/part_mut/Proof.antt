@@ -18,7 +18,8 @@ use types.Follow.{takes_part}
 use types.Mut.{open_ref}
 use contract.Monad.{fact}
 use contract.Running.{tables}
-use types.Kit.{Item, ‵, ◌⊛◌, raw, some, later, ◌$◌, ◌∵◌, !, qed, move, keep, drop, split, split3, join, fsplit, fsplit3, fjoin, feq_l, feq_i, rewrite, use1, use2, await, pick, suffices, frame, done, updating, group, now, show}
+use types.Kit.{Item, ‵, ◌⊛◌, raw, some, later, ◌$◌, ◌∵◌, !, qed, move, keep, drop, split, split3, join, fsplit, fsplit3, fjoin, feq_l, feq_i, rewrite, use1}
+use types.Kit.{use2, await, pick, suffices, frame, done, updating, group, now, show}
 use types.Run.{stop, addr, and_then, no_more, returns, enter}
 use types.ByLocal.{alloc_all, pass_all, free_all, look_at, get, through, sets, lands_as}
 use denote.Array.{Array}
@@ -59,11 +60,17 @@ module _ {M : Type 1} {𝓤 : Ura M} (𝓛 : Logic 𝓤) (ℓ : Lifetime) (κ : 
   after = refill (length xs) xs
 
   abbrev Lent : GName → SProp 𝓤
-  Lent δ = sep 𝓤 (sem 𝓛 ((MutSlice ℓ κ R).own_val (record { ref_ptr = (b, o); ghost_name = δ; now = xs }) (slice_val (b, o) (length xs) ∷ []))) (sep 𝓤 (A.lft κ q) (sem 𝓛 (follows (Array R 0) (Array R 0) γ δ after)))
+  Lent δ = sep 𝓤 (sem 𝓛 ((MutSlice ℓ κ R).own_val (record { ref_ptr = (b, o); ghost_name = δ; now = xs }) (slice_val (
+    b,
+    o,
+  ) (length xs) ∷ []))) (sep 𝓤 (A.lft κ q) (sem 𝓛 (follows (Array R 0) (Array R 0) γ δ after)))
 
   -- the same, as an item of a walk
   abbrev lent : GName → Item 𝓤
-  lent δ = ‵ ((MutSlice ℓ κ R).own_val (record { ref_ptr = (b, o); ghost_name = δ; now = xs }) (slice_val (b, o) (length xs) ∷ [])) ⊛ ‵ (flft κ q) ⊛ ‵ (follows (Array R 0) (Array R 0) γ δ after)
+  lent δ = ‵ ((MutSlice ℓ κ R).own_val (record { ref_ptr = (b, o); ghost_name = δ; now = xs }) (slice_val (
+    b,
+    o,
+  ) (length xs) ∷ [])) ⊛ ‵ (flft κ q) ⊛ ‵ (follows (Array R 0) (Array R 0) γ δ after)
 
   put : (ws : List R.Denot) → ent 𝓤 (sep 𝓤 (sem 𝓛 ((Arr (mem R) (length xs)).own_at ws b o)) (emp 𝓤)) (sem 𝓛 ((Arr (mem R) (length xs)).own_at (after ws) b o))
   put ws = qed 𝓛 (‵ ((Arr (mem R) (length xs)).own_at ws b o) ∷ raw (emp 𝓤) ∷ []) ∵ fsplit ! $ feq_l ! (λ e.
@@ -73,12 +80,19 @@ module _ {M : Type 1} {𝓤 : Ura M} (𝓛 : Logic 𝓤) (ℓ : Lifetime) (κ : 
 
   lends : Room R (length xs) → (vs : List Val)
       → ent 𝓤 (sep 𝓤 (sem 𝓛 ((MutSlice ℓ κ R).own_val (record { ref_ptr = (b, o); ghost_name = γ; now = xs }) vs)) (A.lft κ q)) (H.⇛ (ex 𝓤 Lent))
-  lends rm vs = qed 𝓛 (‵ ((MutSlice ℓ κ R).own_val (record { ref_ptr = (b, o); ghost_name = γ; now = xs }) vs) ∷ ‵ (flft κ q) ∷ []) ∵ updating ! $ fsplit3 ! $ drop ! $
-      rewrite ! 0 (λ (l : List R.Denot). ‵ (fobs γ ((coded_list R.coded).code l))) (heres_id R xs) refl $ open_ref ! tt (Arr (mem R) (length xs)) {b = b} {o = o} $
+  lends rm vs = qed 𝓛 (‵ ((MutSlice ℓ κ R).own_val (record { ref_ptr = (b, o); ghost_name = γ; now = xs }) vs) ∷ ‵ (flft κ q) ∷ []) ∵ updating ! $ fsplit3 ! $
+      drop ! $
+      rewrite ! 0 (λ (l : List R.Denot). ‵ (fobs γ ((coded_list R.coded).code l))) (heres_id R xs) refl $ open_ref ! tt (Arr (mem R) (length xs)) {b = b} {o =
+      o} $
       nothing ! $ move ! (2 ∷ 3 ∷ 4 ∷ 1 ∷ 0 ∷ []) $ group ! 5 $
-      use1 𝓛 (later (some (λ (δ : GName). ‵ (fobs δ ((coded_list R.coded).code xs)) ⊛ ‵ (fbor κ (Body (Arr (mem R) (length xs)) b o δ)) ⊛ ‵ (flft κ q) ⊛ ‵ (follows (Array R 0) (Array R 0) γ δ after))))
-      (takes_part 𝓛 (Arr (mem R) (length xs)) (Arr (mem R) (length xs)) after κ q b o b o γ (emp 𝓤) put ((coded_list R.coded).code xs) ((coded_list R.coded).code xs) xs) $ await ! tt $ pick ! (λ δ. split3 ! $
-      use2 𝓛 (‵ ((MutSlice ℓ κ R).own_val (record { ref_ptr = (b, o); ghost_name = δ; now = xs }) (slice_val (b, o) (length xs) ∷ []))) (slice_of 𝓛 R ℓ κ b o δ xs rm) $ now ! $ show ! Lent δ $ done !)
+      use1 𝓛 (later (some (λ (δ : GName). ‵ (fobs δ ((coded_list R.coded).code xs)) ⊛ ‵ (fbor κ (Body (Arr (mem R) (length xs)) b o δ)) ⊛ ‵ (flft κ q) ⊛ ‵
+      (follows (Array R 0) (Array R 0) γ δ after))))
+      (takes_part 𝓛 (Arr (mem R) (length xs)) (Arr (mem R) (length xs)) after κ q b o b o γ (emp 𝓤) put ((coded_list R.coded).code xs)
+      ((coded_list R.coded).code xs) xs) $ await ! tt $ pick ! (λ δ. split3 ! $
+      use2 𝓛 (‵ ((MutSlice ℓ κ R).own_val (record { ref_ptr = (b, o); ghost_name = δ; now = xs }) (slice_val (
+        b,
+        o,
+      ) (length xs) ∷ []))) (slice_of 𝓛 R ℓ κ b o δ xs rm) $ now ! $ show ! Lent δ $ done !)
 
 -- ---- the code
 
@@ -91,7 +105,10 @@ part_mut_spec 𝓤 𝓛 𝓜 𝓡 wired =
     let goes = Goes-dropped 𝓛 1 (plain (λ _. usize)) yes (λ κs x w. refl) in
     proved 𝓛 f.ended stayed c 𝓜 𝓡 (Goes-spent_ref 𝓛 1 (0 ∷ []) tt (plain (λ _. the_row)), (goes, (goes, tt)))
     f.Key.name code.function (code.unfolded 𝓤 𝓛.H 𝓜 𝓡 wired)
-    (λ κs. (mut_vals, (uint_vals w64, (uint_vals w64, tt)))) (λ κs. (mut_Tells (named 0) κs.0 the_row, (uint_Tells w64, (uint_Tells w64, tt)))) (λ κs qs bounds a n are.
+    (λ κs. (mut_vals, (uint_vals w64, (uint_vals w64, tt)))) (λ κs. (
+      mut_Tells (named 0) κs.0 the_row,
+      (uint_Tells w64, (uint_Tells w64, tt)),
+    )) (λ κs qs bounds a n are.
     let κ = κs.0 in let q = qs.0 in let from : ℕ = a.1.0 in let to : ℕ = a.1.1.0 in
     let G = triple_of 𝓛 g.signature (g.spec 𝓛 𝓜.mem 𝓡.returns) in
     let z : G.Ghost = ((κs, qs, bounds, a, (mut_vals a.0, (uint_vals w64 from, (uint_vals w64 to, tt)))), n) in
@@ -101,18 +118,22 @@ part_mut_spec 𝓤 𝓛 𝓜 𝓡 wired =
     calls_at ! (framed 𝓤 𝓛.H 𝓜 (tables 𝓤 𝓛.H 𝓜 𝓡 𝓡.env)) G (met 𝓤 𝓛 𝓜 𝓡 (code.calls-row_lists::words::Words::range_mut 𝓡.env wired)) z
     (and_then ! (get ! refl) (and_then ! (get ! refl) (and_then ! (get ! refl) (no_more !)))) (λ v.
     use1 𝓛 (later (some (λ (r : MutBor (List ℕ)). ((‵ (flft κ q) ⊛ ‵ ftrue) ⊛ ‵ ((MutSlice (named 0) κ u64).own_val r (v ∷ []))) ⊛
-    some (λ (ws : Unit {0} × (Unit {0} × (Unit {0} × Unit {0}))). ‵ (lasts g.ended κs a ws) ⊛ (‵ (follows the_row (Array u64 0) a.0.ghost_name r.ghost_name (with_words a.0.now from)) ⊛ raw (fact 𝓤 (r.now ≡ slice_range a.0.now.all.items from to))))))) (id⊢ 𝓤 _) $
+    some (λ (ws : Unit {0} × (Unit {0} ×
+    (Unit {0} × Unit {0}))). ‵ (lasts g.ended κs a ws) ⊛ (‵ (follows the_row (Array u64 0) a.0.ghost_name r.ghost_name (with_words a.0.now from)) ⊛ raw
+    (fact 𝓤 (r.now ≡ slice_range a.0.now.all.items from to))))))) (id⊢ 𝓤 _) $
     await ! tt $ pick ! (λ r. split ! $ split ! $ move ! (2 ∷ []) $ pick ! (λ ws. split ! $ drop ! $ split ! $ move ! (1 ∷ []) $ heard ! _ (λ is.
     -- [how the run follows; the token; the slice]
     move ! (2 ∷ []) $ fsplit ! $ pure_l ! (mut_slice_at u64 r (v ∷ [])) (λ p.
     lands_as ! (ap only p.0) refl (tt, (tt, (record { fits = p.1.0 }, tt))) $
     pure_i ! (mut_slice_at u64 r (mut_slice_vals r)) (tt, (tt, tt)) (refl, p.1) $ fjoin ! $
     move ! (2 ∷ []) $ split ! $ move ! (2 ∷ 0 ∷ []) $
-    use2 𝓛 (later (some (lent 𝓛 (named 0) κ q r.ref_ptr.0 r.ref_ptr.1 r.ghost_name u64 r.now))) (lends 𝓛 (named 0) κ q r.ref_ptr.0 r.ref_ptr.1 r.ghost_name u64 r.now p.1 (mut_slice_vals r)) $ await ! tt $ pick ! (λ δ. split3 ! $
+    use2 𝓛 (later (some (lent 𝓛 (named 0) κ q r.ref_ptr.0 r.ref_ptr.1 r.ghost_name u64 r.now))) (lends 𝓛 (named 0) κ q r.ref_ptr.0 r.ref_ptr.1 r.ghost_name u64
+    r.now p.1 (mut_slice_vals r)) $ await ! tt $ pick ! (λ δ. split3 ! $
     -- [the slice; its token; how the old one follows; nothing; how the run follows]
     move ! (4 ∷ 2 ∷ []) $
     use2 𝓛 (‵ (follows the_row (Array u64 0) a.0.ghost_name δ (λ ws. with_words a.0.now from (refill (length r.now) r.now ws))))
     (follows_then 𝓛 the_row (Array u64 0) (Array u64 0) (with_words a.0.now from) (refill (length r.now) r.now) a.0.ghost_name r.ghost_name δ) $
     returns ! (look_at ! 0 refl) $ free_all ! refl $ keep ! (1 ∷ 2 ∷ 0 ∷ []) $
     suffices ! _ (ends_at 𝓛 f.ended stayed c z (slice_val r.ref_ptr (length r.now)) (record r { ghost_name = δ }) (tt, (tt, (tt, tt))) (tt, (tt, (tt, tt)))) $
-    nothing ! $ nothing ! $ fjoin ! $ nothing ! $ fjoin ! $ nothing ! $ fjoin ! $ join ! $ nothing ! $ move ! (2 ∷ 0 ∷ []) $ join ! $ join ! $ frame ! $ says ! is $ done !))))))))
+    nothing ! $ nothing ! $ fjoin ! $ nothing ! $ fjoin ! $ nothing ! $ fjoin ! $ join ! $ nothing ! $ move ! (2 ∷ 0 ∷ []) $ join ! $ join ! $ frame ! $ says !
+    is $ done !))))))))

@@ -21,7 +21,8 @@ loop-number-preserved c =
       pool = record {
         slots = c.loop-number.invariant.pool.slots;
         inputs = c.loop-number.invariant.pool.inputs;
-        size = length-set c.loop-number.self.marks.items (get_or c.args.inputs.now c.loop-number.number (record { 0 = 0 })).0 c.loop-number.number ∙ c.loop-number.invariant.pool.size;
+        size = length-set c.loop-number.self.marks.items (get_or c.args.inputs.now c.loop-number.number (record { 0 = 0 })).0 c.loop-number.number ∙
+            c.loop-number.invariant.pool.size;
       };
       marked = mark_more c.args.inputs.now c.loop-number.self.marks.items c.loop-number.number (record { 0 = 0 }) here within c.loop-number.invariant.marked;
     }

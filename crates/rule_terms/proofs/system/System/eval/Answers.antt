@@ -35,4 +35,5 @@ returns c =
     (rw (c.as_slice.ensures, c.deref.ensures.value, c.as_slice-places.ensures) at c.meet.ensures)
     ∙ value-shown c.self.inside c.args.self.now c.args.p.0 (rule before) c.self.invariant c.self.view_is (found before)
     (looked_word (inputs_of c.args.self.now c.args.p.0) c.args.looked.now) (λ n. slice_index c.args.looked.now n)
-    (λ n l. ap (λ l. looked_word l c.args.looked.now (input_at (rule before).inputs n).0) (sym (inputs before)) ∙ looked_word-at (rule before).inputs c.args.looked.now (is_rule before).apart.apart (one_word_each before) n l)
+    (λ n l. ap (λ l. looked_word l c.args.looked.now (input_at (rule before).inputs n).0) (sym (inputs before)) ∙
+    looked_word-at (rule before).inputs c.args.looked.now (is_rule before).apart.apart (one_word_each before) n l)

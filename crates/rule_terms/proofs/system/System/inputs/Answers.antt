@@ -9,4 +9,5 @@ pub returns : goal.returns
 returns c =
     let a = c.self.inside in
     c.positions.ensures
-    ∙ inputs-shown a c.args.self.now c.args.p.0 (rule_of (row_at a.rows c.args.p.0) (get_or a.places.items c.args.p.0 no_places).items) c.self.invariant c.self.view_is (some_rule a c.args.self.now c.args.p.0 c.self.invariant c.self.view_is c.requires)
+    ∙ inputs-shown a c.args.self.now c.args.p.0 (rule_of (row_at a.rows c.args.p.0) (get_or a.places.items c.args.p.0 no_places).items) c.self.invariant
+    c.self.view_is (some_rule a c.args.self.now c.args.p.0 c.self.invariant c.self.view_is c.requires)

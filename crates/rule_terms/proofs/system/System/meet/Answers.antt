@@ -8,7 +8,8 @@ use Rattle.rule_terms.specs.Pool.{AreApart, IsGrown}
 use Rattle.rule_terms.specs.Meeting.{Met}
 use Rattle.rule_terms.specs.System.{System, with_term}
 use Rattle.rule_terms.specs.Inside.{shown}
-use Rattle.rule_terms.proofs.Keeping.{IsStep, no_places, some_rule, found_rule, rules_written, reopened_kept, step_kept, step_met, step_unmet, step_met_reads, step_unmet_reads, told, on_ok, on_err, err_two}
+use Rattle.rule_terms.proofs.Keeping.{IsStep, no_places, some_rule, found_rule, rules_written, reopened_kept, step_kept, step_met, step_unmet, step_met_reads}
+use Rattle.rule_terms.proofs.Keeping.{step_unmet_reads, told, on_ok, on_err, err_two}
 use Rattle.rule_terms.proofs.system.System.meet.Goals as goal
 use Rattle.rule_terms.proofs.system.System.meet.Goals.{Joined-term-2}
 
@@ -16,7 +17,8 @@ pub open-requires-clause-apart : goal.open-requires-clause-apart
 open-requires-clause-apart c =
     let a = c.self.inside in
     let rule = rule_of (row_at a.rows c.args.p.0) (get_or a.places.items c.args.p.0 no_places).items in
-    subst (AreApart rule.inputs) (sym c.self.invariant.marks) (c.self.invariant.rules c.args.p.0 rule (some_rule a c.args.self.now c.args.p.0 c.self.invariant c.self.view_is c.requires.place)).apart
+    subst (AreApart rule.inputs) (sym c.self.invariant.marks)
+    (c.self.invariant.rules c.args.p.0 rule (some_rule a c.args.self.now c.args.p.0 c.self.invariant c.self.view_is c.requires.place)).apart
 
 pub invariant_of-self : goal.invariant_of-self
 invariant_of-self c =
@@ -32,7 +34,14 @@ meet_in-requires-clause-reads c =
 
 -- the system after the call
 abbrev after : Joined-term-2 → Inside
-after c = record { masks = c.self.inside.masks; pool = c.meet_in.new.pool; rows = c.meet_in.new.rows; places = with_item c.self.inside.places c.args.p.0 c.meet_in.new.places; marked = c.open.new.marked }
+after c = record {
+  masks = c.self.inside.masks;
+  pool = c.meet_in.new.pool;
+  rows = c.meet_in.new.rows;
+  places =
+      with_item c.self.inside.places c.args.p.0 c.meet_in.new.places;
+  marked = c.open.new.marked;
+}
 
 -- what it kept of the position, and keeps after the call
 abbrev old : Joined-term-2 → Rule
@@ -70,16 +79,20 @@ unmet_here c = err_two c.meet_in.result
 
 pub invariant_of-self-2 : goal.invariant_of-self-2
 invariant_of-self-2 c = elim (told c.meet_in.result (met_here c) (unmet_here c)) [
-  | inl met ↦ step_kept c.self.inside (after c) c.self.invariant c.args.p.0 (old c) (new c) (step c) (step_met c.self.inside (after c) c.self.invariant c.args.p.0 (old c) (new c) (step c) c.args.term met (over c)).0
+  | inl met ↦ step_kept c.self.inside (after c) c.self.invariant c.args.p.0 (old c) (new c) (step c)
+      (step_met c.self.inside (after c) c.self.invariant c.args.p.0 (old c) (new c) (step c) c.args.term met (over c)).0
       (step_met_reads c.self.inside (after c) c.self.invariant c.args.p.0 (old c) (new c) (step c) c.args.term met)
-  | inr unmet ↦ step_kept c.self.inside (after c) c.self.invariant c.args.p.0 (old c) (new c) (step c) (step_unmet c.self.inside (after c) c.self.invariant c.args.p.0 (old c) (new c) (step c) unmet).0
+  | inr unmet ↦ step_kept c.self.inside (after c) c.self.invariant c.args.p.0 (old c) (new c) (step c)
+      (step_unmet c.self.inside (after c) c.self.invariant c.args.p.0 (old c) (new c) (step c) unmet).0
       (step_unmet_reads c.self.inside (after c) c.self.invariant c.args.p.0 (old c) (new c) (step c) unmet)
 ]
 
 pub returns-clause-ok : goal.returns-clause-ok
 returns-clause-ok c =
-    let here : Met (after c).pool.slots.items (slice_index c.self.inside.masks c.args.p.0) (old c) (new c) c.args.term → shown (after c) ≡ with_term c.args.self.now c.args.p.0 c.args.term =
-    λ met. (step_met c.self.inside (after c) c.self.invariant c.args.p.0 (old c) (new c) (step c) c.args.term met (over c)).1 ∙ ap (λ (s : System). with_term s c.args.p.0 c.args.term) c.self.view_is in
+    let here : Met (after c).pool.slots.items (slice_index c.self.inside.masks c.args.p.0) (old c) (new c) c.args.term →
+    shown (after c) ≡ with_term c.args.self.now c.args.p.0 c.args.term =
+    λ met. (step_met c.self.inside (after c) c.self.invariant c.args.p.0 (old c) (new c) (step c) c.args.term met (over c)).1 ∙
+    ap (λ (s : System). with_term s c.args.p.0 c.args.term) c.self.view_is in
     on_ok c.meet_in.result here (met_here c)
 
 pub returns-clause-err : goal.returns-clause-err

@@ -21,7 +21,8 @@ has c = c.self.invariant.reads c.args.p.0 (rule c) (found c)
 pub bounds-bits-i : goal.bounds-bits-i
 bounds-bits-i c =
     let before = (goal.at.bounds-bits-i c).After-bits in
-    let inputs : length (rule before).inputs ≡ length (inputs_of c.args.self.now c.args.p.0) = ap length (inputs-shown c.self.inside c.args.self.now c.args.p.0 (rule before) c.self.invariant c.self.view_is (found before)) in
+    let inputs : length (rule before).inputs ≡ length (inputs_of c.args.self.now c.args.p.0) =
+    ap length (inputs-shown c.self.inside c.args.self.now c.args.p.0 (rule before) c.self.invariant c.self.view_is (found before)) in
     let within : c.args.i < length (rule before).reads = omega (arith, (has before).long, c.requires.input) in
     subst (λ l. c.args.i < length l) (sym c.bits.ensures.value) within
 

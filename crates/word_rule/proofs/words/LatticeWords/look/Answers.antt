@@ -21,7 +21,8 @@ pub inputs-requires : goal.inputs-requires
 inputs-requires c =
     let words = c.args.self.now in
     let seat = c.args.seat.now in
-    inside_of words.table.shared.key seat.seat.me.0.about words.system.now c.in-Some.p.0 c.requires.of.1 words.about_system (seat.places c.in-Some.p c.in-Some.is)
+    inside_of words.table.shared.key seat.seat.me.0.about words.system.now c.in-Some.p.0 c.requires.of.1 words.about_system
+    (seat.places c.in-Some.p c.in-Some.is)
 
 pub load-word-requires : goal.load-word-requires
 load-word-requires c =
@@ -38,11 +39,13 @@ load-word-requires c =
     let inside : i < length (inputs_at me.0) = subst (λ (s : System). i < length (inputs_of s (opened me.0.core.mode).0)) (sym system) c.requires.input in
     let small : (input_at (inputs_at me.0) i).0 < length k.system.value.masks =
     subst (λ (s : System). (input_at (inputs_of s (opened me.0.core.mode).0) i).0 < length k.system.value.masks) (sym system)
-    (subst (λ (s : System). (input_at (inputs_of words.system.now (opened me.0.core.mode).0) i).0 < length s.masks) (sym words.about_system) (words.inner (opened me.0.core.mode).0 i c.requires.input)) in (
+    (subst (λ (s : System). (input_at (inputs_of words.system.now (opened me.0.core.mode).0) i).0 < length s.masks) (sym words.about_system)
+    (words.inner (opened me.0.core.mode).0 i c.requires.input)) in (
       c.requires.of.0,
       (let sized = words.sized in let l = small in let same = ap (λ (s : System). length s.masks) words.about_system in omega (arith, sized, l, same, there)),
       subst (λ q. Allows (IsRuled k) words.table.shared.table_id.slots seat.seat.id me q (λ n. n) (λ n new. Looks q me n new)) there
-          (looks k words.table.shared.table_id.slots seat.seat.id me i c.requires.of.1 c.requires.open small (λ j m e. inputs_apart (system_of me.0.about) (opened me.0.core.mode).0 i j inside m e)),
+          (looks k words.table.shared.table_id.slots seat.seat.id me i c.requires.of.1 c.requires.open small
+          (λ j m e. inputs_apart (system_of me.0.about) (opened me.0.core.mode).0 i j inside m e)),
     )
 
 pub index_mut-requires : goal.index_mut-requires
@@ -61,14 +64,18 @@ invariant_of-seat-clause-looks c =
     let words = c.args.self.now in
     let seat = c.args.seat.now in
     let facts : ℕ = bit_and c.load-word.result 140737488355327 in
-    let became = looked_became words.table.shared.key words.system.now seat.seat.me c.load-word.new.seat.me c.args.i c.load-word.result seat.place c.in-Some.p c.inputs.result.now
+    let became = looked_became words.table.shared.key words.system.now seat.seat.me c.load-word.new.seat.me c.args.i c.load-word.result seat.place c.in-Some.p
+    c.inputs.result.now
     c.requires.of.1 words.about_system c.in-Some.is seat.opens c.requires.open c.requires.input c.inputs.ensures c.load-word.ensures.2 in
-    ap (λ xs. set xs c.args.i facts) seat.looks ∙ sym (values_set (looked_in seat.seat.me.0.core.mode) c.args.i facts) ∙ sym (ap (λ (v : View). values_of (looked_in v.core.mode)) became.view)
+    ap (λ xs. set xs c.args.i facts) seat.looks ∙ sym (values_set (looked_in seat.seat.me.0.core.mode) c.args.i facts) ∙
+    sym (ap (λ (v : View). values_of (looked_in v.core.mode)) became.view)
 
 pub invariant_of-seat-clause-width : goal.invariant_of-seat-clause-width
 invariant_of-seat-clause-width c = λ q e.
     let words = c.args.self.now in
     let seat = c.args.seat.now in
-    let became = looked_became words.table.shared.key words.system.now seat.seat.me c.load-word.new.seat.me c.args.i c.load-word.result seat.place c.in-Some.p c.inputs.result.now
+    let became = looked_became words.table.shared.key words.system.now seat.seat.me c.load-word.new.seat.me c.args.i c.load-word.result seat.place c.in-Some.p
+    c.inputs.result.now
     c.requires.of.1 words.about_system c.in-Some.is seat.opens c.requires.open c.requires.input c.inputs.ensures c.load-word.ensures.2 in
-    length-set seat.looked.items c.args.i (bit_and c.load-word.result 140737488355327) ∙ seat.width q e ∙ sym (ap (λ (v : View). input_count v.about q) became.view)
+    length-set seat.looked.items c.args.i (bit_and c.load-word.result 140737488355327) ∙ seat.width q e ∙
+    sym (ap (λ (v : View). input_count v.about q) became.view)

@@ -19,8 +19,11 @@ fetch_or-word-requires c =
     let seat = c.args.seat.now in
     let l : c.args.d.0 < position_count seat.seat.me.0.about = seat.debts c.args.d c.requires.owed in
     let here : c.args.d.0 < length words.system.now.masks = inside_of k seat.seat.me.0.about words.system.now c.args.d.0 c.requires.of.1 words.about_system l in
-    let inside : c.args.d.0 < length k.system.value.masks = subst (λ (s : System). c.args.d.0 < length s.masks) (sym words.about_system) here in
-    (c.requires.of.0, (let sized = words.sized in omega (arith, sized, here)), tells k _ _ seat.seat.me c.args.d _ c.requires.of.1 inside c.requires.owed (own_bit seat.number seat.seat.me.0.number seat.numbered seat.few))
+    let inside : c.args.d.0 < length k.system.value.masks = subst (λ (s : System). c.args.d.0 < length s.masks) (sym words.about_system) here in (
+      c.requires.of.0,
+      (let sized = words.sized in omega (arith, sized, here)),
+      tells k _ _ seat.seat.me c.args.d _ c.requires.of.1 inside c.requires.owed (own_bit seat.number seat.seat.me.0.number seat.numbered seat.few),
+    )
 
 pub invariant_of-seat-clause-owes : goal.invariant_of-seat-clause-owes
 invariant_of-seat-clause-owes c =
@@ -33,5 +36,7 @@ invariant_of-seat-clause-debts c = λ e has.
     let seat = c.args.seat.now in
     let list : List PosId = owed_in seat.seat.me.0.core.mode in
     let view = c.fetch_or-word.ensures.2.seat.view in
-    let owed : owed_in c.fetch_or-word.new.seat.me.0.core.mode ≡ without c.args.d list = ap (λ (v : View). owed_in v.core.mode) view ∙ owing_owed (without c.args.d list) in
-    subst (λ (o : Option Key). e.0 < position_count o) (sym (ap (λ (v : View). v.about) view)) (seat.debts e (without_apart c.args.d list e (subst (λ (ds : List PosId). Contains ds e) owed has)).0)
+    let owed : owed_in c.fetch_or-word.new.seat.me.0.core.mode ≡ without c.args.d list = ap (λ (v : View). owed_in v.core.mode) view ∙
+    owing_owed (without c.args.d list) in
+    subst (λ (o : Option Key). e.0 < position_count o) (sym (ap (λ (v : View). v.about) view))
+    (seat.debts e (without_apart c.args.d list e (subst (λ (ds : List PosId). Contains ds e) owed has)).0)

@@ -10,14 +10,16 @@ pub eval-requires-clause-place : goal.eval-requires-clause-place
 eval-requires-clause-place c =
     let words = c.args.self.now in
     let seat = c.args.seat.now in
-    inside_of words.table.shared.key seat.seat.me.0.about words.system.now c.in-Some.p.0 c.requires.of.1 words.about_system (seat.places c.in-Some.p c.in-Some.is)
+    inside_of words.table.shared.key seat.seat.me.0.about words.system.now c.in-Some.p.0 c.requires.of.1 words.about_system
+    (seat.places c.in-Some.p c.in-Some.is)
 
 pub eval-requires-clause-looked : goal.eval-requires-clause-looked
 eval-requires-clause-looked c =
     let words = c.args.self.now in
     let seat = c.args.seat.now in
     ap length c.as_slice.ensures.value ∙ seat.width c.in-Some.p c.in-Some.is ∙ width_is seat.seat.me.0.about c.in-Some.p ∙
-    ap (λ (s : System). length (inputs_of s c.in-Some.p.0)) (system_is words.table.shared.key seat.seat.me.0.about words.system.now c.requires.of.1 words.about_system)
+    ap (λ (s : System). length (inputs_of s c.in-Some.p.0)) (system_is words.table.shared.key seat.seat.me.0.about words.system.now c.requires.of.1
+    words.about_system)
 
 pub returns : goal.returns
 returns c =

@@ -17,7 +17,8 @@ pub of_words-requires : goal.of_words-requires
 of_words-requires c =
     let k : Key = record { system = c.of.result; graph = c.of-2.result; workers = c.args.workers } in
     let is : IsSystem k.system.value = subst IsSystem (sym c.of.ensures) c.count.ensures.system in
-    let graph : IsGraphOf k.system.value k.graph.value = subst (λ (y : System × List Row). IsGraphOf y.0 y.1) (λ j. (sym c.of.ensures j, sym c.of-2.ensures j)) c.requires.graph in
+    let graph : IsGraphOf k.system.value k.graph.value =
+    subst (λ (y : System × List Row). IsGraphOf y.0 y.1) (λ j. (sym c.of.ensures j, sym c.of-2.ensures j)) c.requires.graph in
     let list : c.as_slice.result.now ≡ opening_words k.workers 0 k.system.value.masks ++ 0 ∷ [] =
     c.as_slice.ensures.value ∙ c.in_ok-list.ensures ∙ ap (λ (x : System). opening_words k.workers 0 x.masks ++ 0 ∷ []) (sym c.of.ensures) in
     subst (λ ws. IsRuled k (opening ws [] (first_view k))) (sym list) (opens k is graph c.requires.workers.0 c.requires.workers.1)
@@ -36,4 +37,5 @@ invariant_of-words-clause-rows c = c.requires.graph.long
 
 pub invariant_of-words-clause-sized : goal.invariant_of-words-clause-sized
 invariant_of-words-clause-sized c =
-    c.in_ok-table.ensures.0 ∙ ap length (c.as_slice.ensures.value ∙ c.in_ok-list.ensures) ∙ length_push (opening_words c.args.workers 0 c.args.s.now.masks) 0 ∙ ap (λ n. n + 1) (opening_long c.args.workers 0 c.args.s.now.masks)
+    c.in_ok-table.ensures.0 ∙ ap length (c.as_slice.ensures.value ∙ c.in_ok-list.ensures) ∙ length_push (opening_words c.args.workers 0 c.args.s.now.masks) 0 ∙
+    ap (λ n. n + 1) (opening_long c.args.workers 0 c.args.s.now.masks)
