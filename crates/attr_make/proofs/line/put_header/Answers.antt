@@ -1,0 +1,12 @@
+use Rattle.std.proofs.Common.{ℕ, List, ◌++◌, ◌∙◌, ap}
+use Rattle.std.specs.Prelude.{codes, decimal}
+use Rattle.attr_make.proofs.Lines.{short_line}
+use Rattle.attr_make.proofs.line.put_header.Goals as goal
+
+pub returns : goal.returns
+returns c =
+    c.in_ok-extend_from_slice-3.ensures.items
+    ∙ ap (λ (t : List ℕ). t ++ codes "(ptr %p) {\n") (c.in_ok-extend_from_slice-2.ensures.items
+    ∙ ap (λ (t : List ℕ). t ++ c.as_bytes.result.now) c.in_ok-extend_from_slice.ensures.items
+    ∙ ap (λ (t : List ℕ). (c.args.text.now.items ++ codes "define internal void @f") ++ t) (c.as_bytes.ensures.value ∙ c.format.ensures.text))
+    ∙ short_line c.args.text.now.items (codes "define internal void @f") (decimal c.args.name) (codes "(ptr %p) {")
