@@ -1,0 +1,5 @@
+pub mod Nearing
+pub mod Lowered
+pub mod Covering
+pub mod Opened
+pub mod Walking

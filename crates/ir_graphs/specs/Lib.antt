@@ -1,0 +1,4 @@
+pub mod Graphs
+pub mod Cuts
+pub mod Trees
+pub mod Distances
