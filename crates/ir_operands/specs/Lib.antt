@@ -1,0 +1,4 @@
+pub mod Constants
+pub mod Offsets
+pub mod Same
+pub mod Types
