@@ -1,0 +1,4 @@
+pub mod Results
+pub mod Lacking
+pub mod Bodies
+pub mod Asked
