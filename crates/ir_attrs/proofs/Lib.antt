@@ -1,0 +1,10 @@
+pub mod Inners
+pub mod Steps
+pub mod Gathering
+pub mod Parameters
+pub mod Pieces
+pub mod Accesses
+pub mod Entering
+pub mod Ends
+pub mod Lasts
+pub mod Spelling

@@ -1,0 +1,10 @@
+pub mod Leaves
+pub mod Latest
+pub mod Attributes
+pub mod Memory
+pub mod Reading
+pub mod Functions
+pub mod Params
+pub mod Places
+pub mod Groups
+pub mod Spelled
