@@ -1,0 +1,9 @@
+pub mod Finding
+pub mod Growth
+pub mod Parts
+pub mod Speaking
+pub mod Standing
+pub mod Sums
+pub mod Tabled
+pub mod Together
+pub mod Wording
