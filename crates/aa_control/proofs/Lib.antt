@@ -1,0 +1,5 @@
+pub mod Instrs
+pub mod Kept
+pub mod Whole
+pub mod Padded
+pub mod Together
