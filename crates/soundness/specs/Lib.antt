@@ -1,0 +1,2 @@
+pub use Rattle.laws_of_control.specs.Control
+pub mod Soundness
