@@ -1,0 +1,12 @@
+pub mod Marks
+pub mod Levels
+pub mod Origins
+pub mod Sealed
+pub mod Guarding
+pub mod Using
+pub mod Calls
+pub mod Crossing
+pub mod Coming
+pub mod Acting
+pub mod Outer
+pub mod Holding
