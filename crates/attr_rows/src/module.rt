@@ -1,0 +1,197 @@
+//! The attributes of each function, call and global of a module.
+ghost use Rattle.std.specs.Prelude.{◌≤◌, length};
+ghost use Rattle.ir_token.specs.declared.TheConstants.{MAX_BYTES};
+ghost use Rattle.ir_token.specs.Lists.{AreTokens};
+
+use crate::line::Line;
+use crate::show;
+use attr_ids::NoMemory;
+use ir_attrs::{
+    Groups, align_field, arg_place, call_places, func_attrs, func_places, global_align, groups,
+    param_attrs, param_place,
+};
+use ir_parse_body::SyntaxRefusal;
+use ir_parse_top::parse_module;
+use ir_token::{Kind, LexRefusal, MAX_BYTES, Token, Tokens, nesting, tokens};
+use ir_tree::{Body, Called, Entity, Header, Instr, Line as Row, Params, Tree};
+use std::alloc::Global;
+
+/// A text, its tokens, the numbers of its names and its groups.
+#[derive(Clone, Copy)]
+struct Read<'a> {
+    text: &'a [u8],
+    toks: &'a [Token],
+    ids: &'a [u32],
+}
+
+/// The number of a group's name, and 0 for every other token.
+fn id_of(text: &[u8], token: Token) -> u32 {
+    let mut id = 0u32;
+    if token.kind == Kind::Group {
+        for at in token.span.from as usize + 1..token.span.to as usize {
+            if at < text.len() {
+                id = id.wrapping_mul(10).wrapping_add(text[at] as u32);
+            }
+        }
+    }
+    id
+}
+
+fn ids_of(alloc: Global, text: &[u8], toks: &[Token]) -> Result<Vec<u32>, NoMemory> {
+    let mut ids = Vec::new(alloc);
+    for token in toks {
+        ids.push(id_of(text, *token))?;
+    }
+    Ok(ids)
+}
+
+fn header(
+    alloc: Global,
+    read: Read,
+    groups: &Groups,
+    header: &Header,
+    line: &mut Line,
+) -> Result<(), NoMemory> {
+    let attrs = func_attrs(
+        alloc,
+        read.text,
+        read.toks,
+        read.ids,
+        groups,
+        header.attributes.as_slice(),
+    )?;
+    show::func(line, &attrs);
+    let ret = param_attrs(read.text, read.toks, header.result_words.as_slice());
+    show::param(line, "ret", &ret);
+    show::places(line, func_places(read.toks, header));
+    if let Params::Listed { params, .. } = &header.params {
+        for param in params.as_slice() {
+            let attrs = param_attrs(read.text, read.toks, param.words.as_slice());
+            show::param(line, "param", &attrs);
+            line.named("at", param_place(read.toks, param) as u64);
+        }
+    }
+    Ok(())
+}
+
+fn called(
+    alloc: Global,
+    read: Read,
+    groups: &Groups,
+    called: &Called,
+    line: &mut Line,
+) -> Result<(), NoMemory> {
+    let words = called.arguments.attributes.as_slice();
+    let attrs = func_attrs(alloc, read.text, read.toks, read.ids, groups, words)?;
+    line.put(" call");
+    show::func(line, &attrs);
+    let places = call_places(alloc, read.toks, called)?;
+    line.named("at", places.ret as u64);
+    line.named("and", places.after as u64);
+    for arg in called.arguments.args.as_slice() {
+        let attrs = param_attrs(read.text, read.toks, arg.words.as_slice());
+        show::param(line, "arg", &attrs);
+        line.named("at", arg_place(read.toks, arg) as u64);
+    }
+    Ok(())
+}
+
+fn body(
+    alloc: Global,
+    read: Read,
+    groups: &Groups,
+    body: &Body,
+    line: &mut Line,
+) -> Result<(), NoMemory> {
+    for row in body.first.lines.as_slice() {
+        if let Row::Instr { instr, .. } = row {
+            match instr.get() {
+                Instr::Call(call) => called(alloc, read, groups, &call.get().called, line)?,
+                Instr::Load { align, .. } => {
+                    line.put(" load");
+                    line.put(" align ");
+                    line.number_or(align_field(read.text, read.toks, *align), "-");
+                }
+                _ => {}
+            }
+        }
+    }
+    Ok(())
+}
+
+fn entity(
+    alloc: Global,
+    read: Read,
+    groups: &Groups,
+    entity: &Entity,
+    line: &mut Line,
+) -> Result<(), NoMemory> {
+    match entity {
+        Entity::Declare(declare) => header(alloc, read, groups, &declare.get().header, line)?,
+        Entity::Define(define) => {
+            header(alloc, read, groups, &define.get().header, line)?;
+            body(alloc, read, groups, &define.get().body, line)?;
+        }
+        Entity::GlobalVar(global) => {
+            line.put(" global align ");
+            let align = global_align(read.text, read.toks, global.get().tails.as_slice());
+            line.number_or(align, "-");
+        }
+        _ => {}
+    }
+    Ok(())
+}
+
+fn tree(
+    alloc: Global,
+    text: &[u8],
+    toks: &[Token],
+    tree: &Tree,
+    line: &mut Line,
+) -> Result<(), NoMemory> {
+    let ids = ids_of(alloc, text, toks)?;
+    let entities = tree.entities.as_slice();
+    let groups = groups(alloc, text, toks, ids.as_slice(), entities)?;
+    let read = Read {
+        text,
+        toks,
+        ids: ids.as_slice(),
+    };
+    for each in entities {
+        entity(alloc, read, &groups, each, line)?;
+    }
+    Ok(())
+}
+
+fn parsed(alloc: Global, text: &[u8], toks: &Tokens, line: &mut Line) -> Result<(), NoMemory>
+    requires small { length text.now ≤ MAX_BYTES }
+    requires tokens { AreTokens text.now toks.now }
+{
+    if nesting(toks, text) > 256 {
+        line.put(" too deep");
+        return Ok(());
+    }
+    match parse_module(alloc, toks, text) {
+        Ok(found) => tree(alloc, text, toks.as_slice(), &found, line),
+        Err(SyntaxRefusal::Syntax { .. }) => {
+            line.put(" no module");
+            Ok(())
+        }
+        Err(SyntaxRefusal::NoMemory) => Err(NoMemory),
+    }
+}
+
+/// Tells the attributes of the functions, calls and globals of a module.
+pub fn told(alloc: Global, text: &[u8], line: &mut Line) -> Result<(), NoMemory> {
+    if text.len() > MAX_BYTES {
+        return Ok(());
+    }
+    match tokens(alloc, text) {
+        Ok(toks) => parsed(alloc, text, &toks, line),
+        Err(LexRefusal::NoMemory) => Err(NoMemory),
+        Err(_) => {
+            line.put(" no tokens");
+            Ok(())
+        }
+    }
+}
