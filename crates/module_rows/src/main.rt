@@ -19,6 +19,8 @@
 //! - `global 5 zero 0 5` is a global variable, and `part func 0 4` a part of a constant.
 //! - `put seg 2 1` puts the segment that comes next in the place of another; so do `put block` and `put value`, and
 //!   `put offsets` takes the offsets of types away.
+//! - `positions`, `position reach 0 1` and `position_count` ask for all positions, for the number of one and for how
+//!   many there are.
 #![tactic(auto)]
 
 mod asks;
@@ -27,6 +29,7 @@ mod desk;
 mod instrs;
 mod integers;
 mod line;
+mod numbered;
 mod operands;
 mod types;
 mod uses_of;
@@ -52,6 +55,7 @@ fn ask(
         integers::ask(alloc, question, words, line)?
             || asks::ask(&desk.module, question, words, line)
             || uses_of::ask(alloc, &desk.module, question, words, line)?
+            || numbered::ask(alloc, &desk.module, question, words, line)?
             || types::ask(&desk.module.types, question, words, line),
     )
 }
