@@ -1,0 +1,14 @@
+use Rattle.std.proofs.Common.{◌≡◌, ◌+◌, ◌-◌, ◌≤◌, ℕ, length}
+use Rattle.why_make.specs.declared.refusal.TheConstants.{MAX_ENTRIES}
+use Rattle.why_make.specs.Sweeps.{sweeps}
+use Rattle.why_make.proofs.course.settle.Given as goal
+
+abbrev pub invariant-settling : goal.invariant-settling
+invariant-settling l = record {
+  long : length l.course.words ≡ length l.s.masks;
+  swept : (n : ℕ) × (l.course ≡ sweeps l.s n);
+  short : length l.course.entries ≤ MAX_ENTRIES;
+}
+
+abbrev pub decreases-settling : goal.decreases-settling
+decreases-settling l = MAX_ENTRIES + 1 - length l.course.entries
