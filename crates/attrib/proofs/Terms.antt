@@ -4,6 +4,7 @@ use Rattle.std.specs.Option.{is_some}
 use Rattle.std.specs.List.{AllByRecursion}
 use Rattle.std.proofs.lemmas.Bool.{lt-ltb}
 use Rattle.std.proofs.lemmas.List.Elements.{All-from_recursion}
+use Rattle.lattice_words.specs.declared.word.TheConstants.{FACT_BITS}
 use Rattle.rule_terms.specs.declared.term.NewTerm.TheOpen.NewTerm-F.{Word, Const}
 use Rattle.rule_terms.specs.declared.term.NewTerm.TheViews.{roll-NewTerm}
 use Rattle.rule_terms.specs.declared.term.NewTerm.TheFolds.{fold-roll-NewTerm}
@@ -15,16 +16,16 @@ use Rattle.slice_facts.specs.Facts.{is_body, is_promised}
 use Rattle.attrib.specs.Deduced.{bit_of, masks_of, term_of}
 use Rattle.attrib.proofs.Composed.{func_at}
 
-small : (b : Bool) → bit_of b < 2 ^ 47
+small : (b : Bool) → bit_of b < 2 ^ FACT_BITS
 small true = omega arith
 small false = omega arith
 
-all_small : (fs : List Func) → AllByRecursion (λ w. w < 2 ^ 47) (map (λ f. bit_of (is_some f.body)) fs)
+all_small : (fs : List Func) → AllByRecursion (λ w. w < 2 ^ FACT_BITS) (map (λ f. bit_of (is_some f.body)) fs)
 all_small [] = tt
 all_small (f ∷ fs) = (small (is_some f.body), all_small fs)
 
-pub masks_small : (m : Module) → All (λ w. w < 2 ^ 47) (masks_of m)
-masks_small m = All-from_recursion (λ w. w < 2 ^ 47) (masks_of m) (all_small m.funcs)
+pub masks_small : (m : Module) → All (λ w. w < 2 ^ FACT_BITS) (masks_of m)
+masks_small m = All-from_recursion (λ w. w < 2 ^ FACT_BITS) (masks_of m) (all_small m.funcs)
 
 pub term_over : (m : Module) (c : Call) → is_over (length m.funcs) (term_of m c) ≡ true
 term_over m c = over (is_body m c.callee.0) refl

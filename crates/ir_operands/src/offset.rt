@@ -225,7 +225,7 @@ pub fn broken_rule(
     requires below { ArePartsBelow parts.now }
     requires within { Each operands.now (λ k w. HasPartsBelow (length parts.now) w.val) }
     ensures kept { IsNone result → Each (spec.rules_at site) (λ k r. spec.KeepsOffset types.now numbers.now parts.now r elem operands.now) }
-    ensures broken { IfSome result (λ r. spec.IsFirstBroken (λ s. spec.KeepsOffset types.now numbers.now parts.now s elem operands.now) (spec.rules_at site) r) }
+    ensures broken { IfSome result (spec.IsFirstBroken (λ s. spec.KeepsOffset types.now numbers.now parts.now s elem operands.now) (spec.rules_at site)) }
 {
     let rules = [
         site.parts_rule(),

@@ -1,6 +1,8 @@
 -- An instruction by its first token: which tree it may be, and what is left of it behind the token.
 use Rattle.std.proofs.Common.{◌≡◌, ℕ, suc, true, false, List, [], ◌∷◌, Option, None, Some, ◌⊎◌, inl, inr, ⊎_elim, eqb, eq-eqb, ◌&&◌, refl, sym, ap, ◌∙◌, subst}
 use Rattle.std.specs.Prelude.{slice_get}
+use Rattle.std.proofs.lemmas.Bool.{and_parts, or_cases, true≢false}
+use Rattle.std.proofs.lemmas.Option.{none-some}
 use denote.Enum.Bare.{same_true}
 use Rattle.ir_tree.specs.contracts.terminal.Terminal.{the_type}
 use Rattle.ir_tree.specs.declared.terminal.Terminal.{Terminal}
@@ -18,11 +20,11 @@ use Rattle.ir_tree.specs.Types.{ty}
 use Rattle.ir_tree.specs.Constants.{iflag, gepflag}
 use Rattle.ir_tree.specs.Values.{value, tvalue}
 use Rattle.ir_tree.specs.Instructions.{binop, castop, volatile, alignment, arm, clause, call, instr}
-use Rattle.ir_tree.proofs.Looks.{both, one, falls, token_seen}
+use Rattle.ir_tree.proofs.Looks.{token_seen}
 use Rattle.ir_tree.proofs.Clear.{pair, split, when_true, moves}
 use Rattle.ir_tree.proofs.ClearInstructions.{call_of}
 use Rattle.ir_parse_parts.specs.Parts.{any_of}
-use Rattle.ir_parse_parts.proofs.Longest.{taken, nothing}
+use Rattle.ir_parse_parts.proofs.Longest.{taken}
 use Rattle.ir_parse_body.proofs.Remains.{Remains, rest_some}
 
 -- a tree of the production is there, and ends here
@@ -92,7 +94,7 @@ module _ (toks : List Terminal) where
   stands_token : (t : Terminal) (a : ℕ) → stands toks t a ≡ true → slice_get toks a ≡ Some t
   stands_token t a e =
       let s = token_seen toks (among (t ∷ [])) a e in
-      s.1.0 ∙ ap Some (sym (same_token t s.0 (⊎_elim (λ h. h) (λ h. absurd (falls h)) (one (is t s.0) false s.1.1))))
+      s.1.0 ∙ ap Some (sym (same_token t s.0 (⊎_elim (λ h. h) (λ h. absurd (true≢false (sym h))) (or_cases (is t s.0) false s.1.1))))
 
   -- where one of two stands it is one of them
   either_stands : (t t' : Terminal) (a : ℕ) → sees toks (among (t ∷ t' ∷ [])) a ≡ true → (slice_get toks a ≡ Some t) ⊎ (slice_get toks a ≡ Some t')
@@ -100,12 +102,12 @@ module _ (toks : List Terminal) where
       let s = token_seen toks (among (t ∷ t' ∷ [])) a e in
       ⊎_elim
       (λ h. inl (s.1.0 ∙ ap Some (sym (same_token t s.0 h))))
-      (λ h. ⊎_elim (λ h. inr (s.1.0 ∙ ap Some (sym (same_token t' s.0 h)))) (λ h. absurd (falls h)) (one (is t' s.0) false h))
-      (one (is t s.0) (among (t' ∷ []) s.0) s.1.1)
+      (λ h. ⊎_elim (λ h. inr (s.1.0 ∙ ap Some (sym (same_token t' s.0 h)))) (λ h. absurd (true≢false (sym h))) (or_cases (is t' s.0) false h))
+      (or_cases (is t s.0) (among (t' ∷ []) s.0) s.1.1)
 
   -- a leaf stands at its own place
   leaf_stands : (set : List Terminal) (x a b : ℕ) → one_of toks set x a ≡ Some b → sees toks (among set) a ≡ true
-  leaf_stands set x a b e = (both (eqb x a) (sees toks (among set) a) (when_true (eqb x a && sees toks (among set) a) (suc a) b e).0).1
+  leaf_stands set x a b e = (and_parts (eqb x a) (sees toks (among set) a) (when_true (eqb x a && sees toks (among set) a) (suc a) b e).0).1
 
   leaf_here : (set : List Terminal) (a : ℕ) → one_of toks set a a ≡ any_of toks set a
   leaf_here set a = ap (λ x. when (x && sees toks (among set) a) (suc a)) (eq-eqb a a refl)
@@ -276,7 +278,7 @@ module _ (toks : List Terminal) where
 
   -- a token that is none of these is not one of them
   absent : (set : List Terminal) (t : Terminal) (a : ℕ) → None ≡ any_of toks set a → among set t ≡ true → slice_get toks a ≡ Some t → ⊥
-  absent set t a n one' h = nothing (suc a) (n ∙ ap (λ x. when x (suc a)) (sees_at set t a h ∙ one'))
+  absent set t a n one' h = none-some (suc a) (n ∙ ap (λ x. when x (suc a)) (sees_at set t a h ∙ one'))
 
   module _ (a : ℕ)
       (no_binop : None ≡ any_of toks (k.ConstBinop ∷ k.Binop ∷ []) a) (no_icmp : None ≡ the toks k.Icmp a)

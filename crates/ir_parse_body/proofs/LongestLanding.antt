@@ -1,5 +1,6 @@
 -- The longest landing pad from the longest of its parts.
 use Rattle.std.proofs.Common.{◌≡◌, ℕ, suc, ◌<◌, ◌≤◌, true, false, List, [], ◌∷◌, length, None, Some, ◌⊎◌, inl, inr, refl, sym, ap, ◌∙◌, subst, arith}
+use Rattle.std.proofs.lemmas.Option.{same_Some}
 use Rattle.ir_tree.specs.declared.terminal.Terminal.{Terminal}
 use Rattle.ir_tree.specs.declared.terminal.Terminal.TheVariants as k
 use Rattle.ir_tree.specs.declared.types.Ty.{Ty}
@@ -13,7 +14,7 @@ use Rattle.ir_tree.specs.Constants.{tconst}
 use Rattle.ir_tree.specs.Instructions.{clause, instr}
 use Rattle.ir_tree.proofs.Looks.{apart, At, at_clash}
 use Rattle.ir_tree.proofs.Looks.Test.{In}
-use Rattle.ir_tree.proofs.Clear.{pair, choice, split, some_same, moves, when_true, token_reads}
+use Rattle.ir_tree.proofs.Clear.{pair, choice, split, moves, when_true, token_reads}
 use Rattle.ir_tree.proofs.Known.{Known, firsts, leaf_of, pair_of, choice_of, many_of, some_of}
 use Rattle.ir_tree.proofs.ClearTypes.{ty_of}
 use Rattle.ir_tree.proofs.ClearConstants.{tconst_of}
@@ -81,7 +82,7 @@ module _ (toks : List Terminal) where
   some_empty a b ts is l = no_clause a (subst (λ x. Longest (many (clause toks)) a (Some x)) (λ i. (is i, place i)) l)
     where
       place : b ≡ a
-      place = sym (some_same a b (ap (λ us. many (clause toks) us a) (sym is) ∙ l.0))
+      place = sym (same_Some a b (ap (λ us. many (clause toks) us a) (sym is) ∙ l.0))
 
   pub some_full : (a b : ℕ) (ts : List Clause) → (ts ≡ [] → ⊥) → Longest (many (clause toks)) a (Some (ts, b)) → Longest (some (clause toks)) a (Some (ts, b))
   some_full a b [] full l = absurd (full refl)

@@ -1,11 +1,12 @@
 -- What is left of a production once its first part was read. A parser reads the parts in turn, and each part leaves less of the
 -- production; where a part is missing no tree fits, and where nothing is left the tree is whole.
 use Rattle.std.proofs.Common.{◌≡◌, ℕ, ◌<◌, ◌≤◌, Bool, true, false, List, length, None, Some, ⊎_elim, sym, ap, ◌∙◌, subst, arith}
+use Rattle.std.proofs.lemmas.Option.{same_Some}
 use Rattle.ir_tree.specs.declared.terminal.Terminal.{Terminal}
 use Rattle.ir_tree.specs.declared.terminal.Terminal.TheVariants as k
 use Rattle.ir_tree.specs.Steps.{Step, the, next, Longest}
 use Rattle.ir_tree.proofs.Looks.{apart, at_clash}
-use Rattle.ir_tree.proofs.Clear.{pair, split, some_same, then_then, moves}
+use Rattle.ir_tree.proofs.Clear.{pair, split, then_then, moves}
 use Rattle.ir_tree.proofs.Known.{Known, next_of}
 use Rattle.ir_parse_parts.proofs.Longest.{taken}
 use Rattle.ir_parse_parts.proofs.LongestTypes.{the_moves}
@@ -36,7 +37,7 @@ module _ {toks : List Terminal} {T U : Type 0} {p : T → Step} {q : U →
   first_longest : (a n m c : ℕ) (t t' : T) (u : U) → Longest p a (Some (t, n)) → p t' a ≡ Some m → q u m ≡ Some c → m ≡ n
   first_longest a n m c t t' u l et eu =
       ⊎_elim
-      (λ same. some_same m n (sym et ∙ ap (λ z. p z a) (sym same) ∙ l.0))
+      (λ same. same_Some m n (sym et ∙ ap (λ z. p z a) (sym same) ∙ l.0))
       (λ d. ⊎_elim
       (λ h. let no : ⊥ = omega (arith, h.0, l.1 t' m et) in absurd no)
       (λ h. absurd (at_clash toks of_p.more of_q.first m told h.1 (moves toks of_q.first m c ((of_q.at m).opens u c eu)).1))

@@ -2,12 +2,13 @@
 -- a tree made of them.
 use Rattle.std.proofs.Common.{◌≡◌, ℕ, suc, ◌≤◌, Bool, true, false, ◌&&◌, List, [], ◌∷◌, Option, None, Some, ◌⊎◌, inl, inr, ⊎_elim, refl, sym, ap, ◌∙◌, subst}
 use Rattle.std.proofs.Common.{arith}
+use Rattle.std.proofs.lemmas.Option.{none-some, same_Some}
 use Rattle.ir_tree.specs.declared.terminal.Terminal.{Terminal}
 use Rattle.ir_tree.specs.Steps.{Step, ◌⨾◌, stands, when, unless, the, leaf, where_not, Longest}
 use Rattle.ir_tree.proofs.Looks.{At, apart}
-use Rattle.ir_tree.proofs.Clear.{pair, choice, split, some_same, when_true, unless_false}
+use Rattle.ir_tree.proofs.Clear.{pair, choice, split, when_true, unless_false}
 use Rattle.ir_tree.proofs.Known.{Known, firsts, leaf_of, the_of, pair_of, shape_of}
-use Rattle.ir_parse_parts.proofs.Longest.{turned, nothing, taken, leaf_some, the_some, the_none, pair_some, pair_none}
+use Rattle.ir_parse_parts.proofs.Longest.{turned, taken, leaf_some, the_some, the_none, pair_some, pair_none}
 
 -- ---- what was read, made into another tree
 pub twice : {T U V : Type 0} (p : V → Step) (f : U → V) (g : T → U) (a : ℕ) (r : Option (T × ℕ)) → Longest p a (turned f (turned g r)) →
@@ -83,15 +84,15 @@ module _ (toks : List Terminal) (k : Terminal) where
   stands_not a h = not_when (stands toks k a) (suc a) h
 
   pub after_by : {T : Type 0} (p : T → Step) (a b : ℕ) → Some b ≡ the toks k a → (r : Option (T × ℕ)) → Longest p b r → Longest (after toks k p) a r
-  after_by p a b h None l = λ u c e. let s = split (the toks k a) (p u) c e in l u c (subst (λ z. p u z ≡ Some c) (some_same s.0 b (sym s.1.0 ∙ sym h)) s.1.1)
+  after_by p a b h None l = λ u c e. let s = split (the toks k a) (p u) c e in l u c (subst (λ z. p u z ≡ Some c) (same_Some s.0 b (sym s.1.0 ∙ sym h)) s.1.1)
   after_by p a b h (Some x) l = (
     taken (the toks k a) b (p x.0) (Some x.1) (sym h) l.0,
     λ u c e. let s = split (the toks k a) (p u) c e in
-        l.1 u c (subst (λ z. p u z ≡ Some c) (some_same s.0 b (sym s.1.0 ∙ sym h)) s.1.1),
+        l.1 u c (subst (λ z. p u z ≡ Some c) (same_Some s.0 b (sym s.1.0 ∙ sym h)) s.1.1),
   )
 
   pub after_none : {T : Type 0} (p : T → Step) (a : ℕ) → None ≡ the toks k a → Longest (after toks k p) a None
-  after_none p a h = λ u c e. let s = split (the toks k a) (p u) c e in nothing s.0 (h ∙ s.1.0)
+  after_none p a h = λ u c e. let s = split (the toks k a) (p u) c e in none-some s.0 (h ∙ s.1.0)
 
   -- a leaf, and what is behind it
   pub led_by : {T : Type 0} {p : T → Step} (of_p : Known toks false p) (a b : ℕ) → Some b ≡ the toks k a → (r : Option (T × ℕ)) → Longest p b r →

@@ -5,14 +5,13 @@ use Rattle.std.specs.List.{list_all}
 use Rattle.ir_tree.specs.declared.terminal.Terminal.{Terminal}
 use Rattle.ir_tree.specs.declared.terminal.Terminal.TheVariants.{Comma}
 use Rattle.std.specs.Prelude.{slice_get}
+use Rattle.std.proofs.lemmas.Bool.{and_parts, true≢false}
+use Rattle.std.proofs.lemmas.Option.{none-some, same_Some}
 use Rattle.ir_tree.specs.Steps.{Step, and_then, is, among, seen, sees, stands, when, the, passing, leaf, many, some, optional, next, listed, separated, Longest}
-use Rattle.ir_tree.proofs.Looks.{passes, Look, apart, both, falls, Begins, At, at_clash, seen_within}
+use Rattle.ir_tree.proofs.Looks.{passes, Look, apart, Begins, At, at_clash, seen_within}
 use Rattle.ir_tree.proofs.Looks.Test.{In}
-use Rattle.ir_tree.proofs.Clear.{Reads, pair, choice, then_then, split, some_same, moves, rises, when_true}
+use Rattle.ir_tree.proofs.Clear.{Reads, pair, choice, then_then, split, moves, rises, when_true}
 use Rattle.ir_tree.proofs.Known.{Known, firsts, many_of, next_of}
-
-pub nothing : (c : ℕ) → None ≡ Some c → ⊥
-nothing c e = cc
 
 -- what was read, made into another tree
 abbrev pub turned : {T U : Type 0} → (T → U) → Option (T × ℕ) → Option (U × ℕ)
@@ -25,7 +24,7 @@ module _ {toks : List Terminal} {T U : Type 0} {p : T → Step} {q : U →
   q_short : (a m n c : ℕ) (t t' : T) (u : U) → Longest p a (Some (t, n)) → p t' a ≡ Some m → q u m ≡ Some c → ((m ≡ n) ⊎ ((c ≡ m) × (m < n)))
   q_short a m n c t t' u long et eu =
       ⊎_elim
-      (λ same. inl (some_same m n (sym et ∙ ap (λ z. p z a) (sym same) ∙ long.0)))
+      (λ same. inl (same_Some m n (sym et ∙ ap (λ z. p z a) (sym same) ∙ long.0)))
       (λ d. ⊎_elim
       (λ h. let no : ⊥ = omega (arith, h.0, long.1 t' m et) in absurd no)
       (λ h. ⊎_elim (λ o. absurd (at_clash toks of_p.more of_q.first m told h.1 o.1)) (λ o. inr (o.0, h.0)) ((of_q.at m).opens u c eu))
@@ -117,13 +116,13 @@ module _ (toks : List Terminal) (test : Terminal → Bool) (a : ℕ) where
   pub passing_behind : (u c : ℕ) → passing toks test u a ≡ Some c → when (sees toks test a) (suc a) ≡ Some c
   passing_behind u c e =
       let f = when_true (eqb u a && sees toks test a) (suc a) c e in
-      ap (λ x. when x (suc a)) (both (eqb u a) (sees toks test a) f.0).1 ∙ ap Some (sym f.1)
+      ap (λ x. when x (suc a)) (and_parts (eqb u a) (sees toks test a) f.0).1 ∙ ap Some (sym f.1)
 
   pub passing_some : (b : ℕ) → Some b ≡ when (sees toks test a) (suc a) → Longest (passing toks test) a (Some (a, b))
-  passing_some b h = (passing_itself ∙ sym h, λ u c e. let same : b ≡ c = some_same b c (h ∙ passing_behind u c e) in omega (arith, same))
+  passing_some b h = (passing_itself ∙ sym h, λ u c e. let same : b ≡ c = same_Some b c (h ∙ passing_behind u c e) in omega (arith, same))
 
   pub passing_none : None ≡ when (sees toks test a) (suc a) → Longest (passing toks test) a None
-  passing_none h = λ u c e. nothing c (h ∙ passing_behind u c e)
+  passing_none h = λ u c e. none-some c (h ∙ passing_behind u c e)
 
 module _ (toks : List Terminal) (t : Terminal) (a : ℕ) where
   -- the token at the place is what begins there
@@ -143,10 +142,10 @@ module _ (toks : List Terminal) (t : Terminal) (a : ℕ) where
   leaf_none = passing_none toks (among (t ∷ [])) a
 
   pub the_some : (b : ℕ) → Some b ≡ the toks t a → Longest {T = Unit {0}} (λ _. the toks t) a (Some (tt, b))
-  the_some b h = (sym h, λ _ c e. let same : b ≡ c = some_same b c (h ∙ e) in omega (arith, same))
+  the_some b h = (sym h, λ _ c e. let same : b ≡ c = same_Some b c (h ∙ e) in omega (arith, same))
 
   pub the_none : None ≡ the toks t a → Longest {T = Unit {0}} (λ _. the toks t) a None
-  the_none h = λ _ c e. nothing c (h ∙ e)
+  the_none h = λ _ c e. none-some c (h ∙ e)
 
 -- ---- one of two
 module _ {T U : Type 0} (p : T → Step) (q : U → Step) (a : ℕ) where
@@ -186,14 +185,14 @@ optional_some {toks} {T} {p} of_p a n t l = (l.0, go)
     up = (moves toks of_p.first a n ((of_p.at a).opens t n l.0)).0
 
     go : (x : Option T) (c : ℕ) → optional p x a ≡ Some c → c ≤ n
-    go None c e = let same : a ≡ c = some_same a c e in omega (arith, same, up)
+    go None c e = let same : a ≡ c = same_Some a c e in omega (arith, same, up)
     go (Some u) c e = l.1 u c e
 
 pub optional_none : {T : Type 0} (p : T → Step) (a : ℕ) → Longest p a None → Longest (optional p) a (Some (None, a))
 optional_none {T} p a l = (refl, go)
   where
     go : (x : Option T) (c : ℕ) → optional p x a ≡ Some c → c ≤ a
-    go None c e = let same : a ≡ c = some_same a c e in omega (arith, same)
+    go None c e = let same : a ≡ c = same_Some a c e in omega (arith, same)
     go (Some u) c e = absurd (l u c e)
 
 -- no tree of a production is where none of its first tokens is
@@ -207,13 +206,13 @@ asks [] = false
 asks (x ∷ look) = true
 
 asked_within : (toks : List Terminal) (look : Look) (a : ℕ) → asks look ≡ true → Begins toks look a → a < length toks
-asked_within toks [] a e h = absurd (falls e)
+asked_within toks [] a e h = absurd (true≢false (sym e))
 asked_within toks (x ∷ look) a e h = seen_within toks (passes x) a h.0
 
 begun_within : (toks : List Terminal) (looks : List Look) (a : ℕ) → list_all asks looks ≡ true → At toks looks a → a < length toks
 begun_within toks [] a all h = absurd h
 begun_within toks (look ∷ looks) a all h =
-    let parts = both (asks look) (list_all asks looks) all in
+    let parts = and_parts (asks look) (list_all asks looks) all in
     ⊎_elim (λ first. asked_within toks look a parts.0 first) (λ later. begun_within toks looks a parts.1 later) h
 
 -- a tree that is not empty ends behind its place, within the tokens
@@ -231,7 +230,7 @@ longest_by {toks} {p = p} {more = more} {a = a} r t n fits stop = (
   fits,
   λ u c e.
       ⊎_elim
-      (λ same. let end : n ≡ c = some_same n c (sym fits ∙ ap (λ z. p z a) same ∙ e) in omega (arith, end))
+      (λ same. let end : n ≡ c = same_Some n c (sym fits ∙ ap (λ z. p z a) same ∙ e) in omega (arith, end))
       (λ d. ⊎_elim (λ h. absurd (stop h.1)) (λ h. omega (arith, h.0)) d)
       (r.clear t u n c fits e),
 )
@@ -256,7 +255,7 @@ pub reached_all : {T : Type 0} (p : T → Step) (a b : ℕ) (ts : List T) → Re
 reached_all {T} p a b ts h stop = (h.0, λ us c e. ⊎_elim (λ less. less) (λ on. go c on.0 on.1) (h.1 us c e))
   where
     go : (c : ℕ) (rest : List T) → many p rest b ≡ Some c → c ≤ b
-    go c [] e = let same : b ≡ c = some_same b c e in omega (arith, same)
+    go c [] e = let same : b ≡ c = same_Some b c e in omega (arith, same)
     go c (u ∷ rest) e = let s = split (p u b) (many p rest) c e in absurd (stop u s.0 s.1.0)
 
 module _ {toks : List Terminal} {T : Type 0} {p : T → Step} (of_p : Known toks false p) (told : apart of_p.more of_p.first ≡ true) where
@@ -270,16 +269,16 @@ module _ {toks : List Terminal} {T : Type 0} {p : T → Step} (of_p : Known toks
       up = (moves toks of_p.first b d ((of_p.at b).opens t d long.0)).0
 
       short : (m c : ℕ) (rest : List T) → At toks of_p.more m → many p rest m ≡ Some c → c ≡ m
-      short m c [] at' e = sym (some_same m c e)
+      short m c [] at' e = sym (same_Some m c e)
       short m c (u ∷ rest) at' e = let s = split (p u m) (many p rest) c e in
           absurd (at_clash toks of_p.more of_p.first m told at' (moves toks of_p.first m s.0 ((of_p.at m).opens u s.0 s.1.0)).1)
 
       go : (c : ℕ) (rest : List T) → many p rest b ≡ Some c → (c ≤ d) ⊎ ((rest : List T) × (many p rest d ≡ Some c))
-      go c [] e = let same : b ≡ c = some_same b c e in inl (omega (arith, same, up))
+      go c [] e = let same : b ≡ c = same_Some b c e in inl (omega (arith, same, up))
       go c (u ∷ rest) e =
           let s = split (p u b) (many p rest) c e in
           ⊎_elim
-          (λ same. let place : s.0 ≡ d = some_same s.0 d (sym s.1.0 ∙ ap (λ z. p z b) (sym same) ∙ long.0) in
+          (λ same. let place : s.0 ≡ d = same_Some s.0 d (sym s.1.0 ∙ ap (λ z. p z b) (sym same) ∙ long.0) in
           inr (rest, subst (λ z. many p rest z ≡ Some c) place s.1.1))
           (λ o. ⊎_elim
           (λ l. let no : ⊥ = omega (arith, l.0, long.1 u s.0 s.1.0) in absurd no)
@@ -293,7 +292,7 @@ module _ (toks : List Terminal) {T : Type 0} (p : T → Step) where
   separated_none a stop = (refl, go)
     where
       go : (us : List T) (c : ℕ) → separated toks p us a ≡ Some c → c ≤ a
-      go [] c e = let same : a ≡ c = some_same a c e in omega (arith, same)
+      go [] c e = let same : a ≡ c = same_Some a c e in omega (arith, same)
       go (u ∷ us) c e = let s = split (p u a) (many (next toks p) us) c e in absurd (stop u s.0 s.1.0)
 
   listed_is_pair : (a : ℕ) (t : T) (us : List T) → listed toks p (t ∷ us) a ≡ pair p (many (next toks p)) (t, us) a
@@ -304,7 +303,7 @@ module _ (toks : List Terminal) {T : Type 0} (p : T → Step) where
   separated_some a b t ts up l = (l.0, go)
     where
       go : (us : List T) (c : ℕ) → separated toks p us a ≡ Some c → c ≤ b
-      go [] c e = let same : a ≡ c = some_same a c e in omega (arith, same, up)
+      go [] c e = let same : a ≡ c = same_Some a c e in omega (arith, same, up)
       go (u ∷ us) c e = l.1 (u, us) c e
 
   -- an item behind its comma
@@ -312,13 +311,13 @@ module _ (toks : List Terminal) {T : Type 0} (p : T → Step) where
   next_longest a b (Some x) h l = (
     taken (the toks Comma a) b (p x.0) (Some x.1) (sym h) l.0,
     λ u c e. let s = split (the toks Comma a) (p u) c e in
-        l.1 u c (subst (λ z. p u z ≡ Some c) (some_same s.0 b (sym s.1.0 ∙ sym h)) s.1.1),
+        l.1 u c (subst (λ z. p u z ≡ Some c) (same_Some s.0 b (sym s.1.0 ∙ sym h)) s.1.1),
   )
   next_longest a b None h l = λ u c e. let s = split (the toks Comma a) (p u) c e in
-      l u c (subst (λ z. p u z ≡ Some c) (some_same s.0 b (sym s.1.0 ∙ sym h)) s.1.1)
+      l u c (subst (λ z. p u z ≡ Some c) (same_Some s.0 b (sym s.1.0 ∙ sym h)) s.1.1)
 
   pub next_none : (a : ℕ) → None ≡ the toks Comma a → Longest (next toks p) a None
-  next_none a h = λ u c e. let s = split (the toks Comma a) (p u) c e in nothing s.0 (h ∙ s.1.0)
+  next_none a h = λ u c e. let s = split (the toks Comma a) (p u) c e in none-some s.0 (h ∙ s.1.0)
 
 -- a production of whose shape no tree fits
 pub none_by : {T X : Type 0} (p : T → Step) (q : X → Step) (a : ℕ) (back : X → T) (view : (t : T) (b : ℕ) → p t a ≡ Some b → (x : X) ×

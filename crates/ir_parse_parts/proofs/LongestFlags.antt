@@ -1,5 +1,6 @@
 -- The longest flag of a getelementptr.
 use Rattle.std.proofs.Common.{◌≡◌, ℕ, List, [], ◌∷◌, None, Some, sym, ◌∙◌}
+use Rattle.std.proofs.lemmas.Option.{none-some}
 use Rattle.ir_tree.specs.declared.terminal.Terminal.{Terminal}
 use Rattle.ir_tree.specs.declared.terminal.Terminal.TheVariants as k
 use Rattle.ir_tree.specs.declared.constants.Gepflag.{Gepflag}
@@ -9,7 +10,7 @@ use Rattle.ir_tree.specs.Constants.{gepflag}
 use Rattle.ir_tree.proofs.Clear.{split}
 use Rattle.ir_tree.proofs.ClearConstants.{gepflag_known}
 use Rattle.ir_parse_parts.specs.Parts.{any_of, in_range}
-use Rattle.ir_parse_parts.proofs.Longest.{nothing, taken, passing_itself, passing_behind, the_of_leaf, longest_by}
+use Rattle.ir_parse_parts.proofs.Longest.{taken, passing_itself, passing_behind, the_of_leaf, longest_by}
 
 module _ (toks : List Terminal) (a : ℕ) where
   abbrev words : List Terminal
@@ -22,7 +23,7 @@ module _ (toks : List Terminal) (a : ℕ) where
   flag_none h l = go
     where
       go : (u : Gepflag) (c : ℕ) → gepflag toks u a ≡ Some c → ⊥
-      go (Word at) c e = nothing c (h ∙ passing_behind toks (among words) a at c e)
+      go (Word at) c e = none-some c (h ∙ passing_behind toks (among words) a at c e)
       go (InRange word from to) c e =
           let s = split (leaf toks k.InRange word a) (the toks k.LeftParen ⨾ leaf toks k.Int from ⨾ the toks k.Comma ⨾ leaf toks k.Int to ⨾ the toks
           k.RightParen) c e in

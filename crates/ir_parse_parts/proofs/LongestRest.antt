@@ -2,6 +2,7 @@
 use Rattle.std.proofs.Common.{◌≡◌, ℕ, suc, ◌≤◌, Bool, true, false, ◌||◌, List, [], ◌∷◌, Option, None, Some, ⊎_elim, refl, sym, ap, ◌∙◌, subst}
 use Rattle.std.specs.Prelude.{slice_get}
 use Rattle.std.specs.List.{AllByRecursion}
+use Rattle.std.proofs.lemmas.Option.{none-some, same_Some}
 use denote.Enum.Bare.{same_true}
 use Rattle.ir_tree.specs.contracts.terminal.Terminal.{the_type}
 use Rattle.ir_tree.specs.declared.terminal.Terminal.{Terminal}
@@ -9,11 +10,11 @@ use Rattle.ir_tree.specs.declared.types.Ty.{Ty}
 use Rattle.ir_tree.specs.Types.{ty}
 use Rattle.ir_tree.specs.Steps.{Step, is, among, seen, sees, stands, when, the, leaf, Longest}
 use Rattle.ir_tree.proofs.Looks.{Look, token_seen}
-use Rattle.ir_tree.proofs.Clear.{Reads, pair, split, some_same, rises, when_true}
+use Rattle.ir_tree.proofs.Clear.{Reads, pair, split, rises, when_true}
 use Rattle.ir_tree.proofs.Known.{Known}
 use Rattle.ir_tree.proofs.ClearTypes.{ty_reads}
 use Rattle.ir_parse_parts.specs.Parts.{any_of}
-use Rattle.ir_parse_parts.proofs.Longest.{nothing, the_of_leaf}
+use Rattle.ir_parse_parts.proofs.Longest.{the_of_leaf}
 
 -- ---- sequences
 pub stop : {T U : Type 0} (p : T → Step) (q : U → Step) (a : ℕ) → Longest p a None → Longest (pair p q) a None
@@ -25,10 +26,10 @@ module _ (toks : List Terminal) {U : Type 0} (q : U → Step) where
   past p a b ends none = λ y c e. let s = split (p y.0 a) (q y.1) c e in none y.1 c (subst (λ z. q y.1 z ≡ Some c) (ends y.0 s.0 s.1.0) s.1.1)
 
   pub past_the : (t : Terminal) (a b : ℕ) → Some b ≡ the toks t a → Longest q b None → Longest (pair (λ (_ : Unit {0}). the toks t) q) a None
-  past_the t a b h none = past (λ _. the toks t) a b (λ u c e. some_same c b (sym e ∙ sym h)) none
+  past_the t a b h none = past (λ _. the toks t) a b (λ u c e. same_Some c b (sym e ∙ sym h)) none
 
   pub past_leaf : (t : Terminal) (a b : ℕ) → Some b ≡ the toks t a → Longest q b None → Longest (pair (leaf toks t) q) a None
-  past_leaf t a b h none = past (leaf toks t) a b (λ u c e. some_same c b (sym (the_of_leaf toks t a u c e) ∙ sym h)) none
+  past_leaf t a b h none = past (leaf toks t) a b (λ u c e. same_Some c b (sym (the_of_leaf toks t a u c e) ∙ sym h)) none
 
   -- a production of which a longer tree cannot go on
   pub past_one : {T : Type 0} {p : T → Step} {first : List Look} {e : Bool} (a b : ℕ) → Reads toks p first [] e a → (t : T) → Longest p a (Some (t, b)) →
@@ -36,7 +37,7 @@ module _ (toks : List Terminal) {U : Type 0} (q : U → Step) where
   past_one {T} {p} a b reads t long none = past p a b ends none
     where
       ends : (u : T) (c : ℕ) → p u a ≡ Some c → c ≡ b
-      ends u c e = ⊎_elim (λ same. some_same c b (sym e ∙ ap (λ z. p z a) (sym same) ∙
+      ends u c e = ⊎_elim (λ same. same_Some c b (sym e ∙ ap (λ z. p z a) (sym same) ∙
           long.0)) (λ d. ⊎_elim (λ h. absurd h.1) (λ h. absurd h.1) d) (reads.clear t u b c long.0 e)
 
   -- a type
@@ -63,7 +64,7 @@ module _ (toks : List Terminal) (t : Terminal) (a b : ℕ) (h : Some b ≡ the t
   not_among set told = sym (ap (λ x. when x (suc a)) (sees_where (among set) ∙ told))
 
   is_among : (set : List Terminal) → among set t ≡ true → None ≡ any_of toks set a → ⊥
-  is_among set told none = nothing (suc a) (none ∙ ap (λ x. when x (suc a)) (sees_where (among set) ∙ told))
+  is_among set told none = none-some (suc a) (none ∙ ap (λ x. when x (suc a)) (sees_where (among set) ∙ told))
 
 module _ (toks : List Terminal) (a : ℕ) where
   -- where none of a set stands, each of it does not
@@ -84,7 +85,7 @@ module _ (toks : List Terminal) (a : ℕ) where
       go (Some f) none other = neither (is t f) none
         where
           neither : (x : Bool) → None ≡ when (x || false) (suc a) → None ≡ when (x || among set f) (suc a)
-          neither true e = absurd (nothing (suc a) e)
+          neither true e = absurd (none-some (suc a) e)
           neither false e = other
 
   any_none : None ≡ any_of toks [] a

@@ -1,6 +1,7 @@
 -- The longest global variable from the longest of its parts.
 use Rattle.std.proofs.Common.{◌≡◌, ℕ, suc, Bool, true, false, ◌&&◌, ◌||◌, List, [], ◌∷◌, Option, None, Some, ◌⊎◌, inl, inr, refl, sym, ap, ◌∙◌}
 use Rattle.std.specs.Prelude.{slice_get}
+use Rattle.std.proofs.lemmas.Option.{none-some}
 use Rattle.ir_tree.specs.declared.terminal.Terminal.{Terminal}
 use Rattle.ir_tree.specs.declared.terminal.Terminal.TheVariants as k
 use Rattle.ir_tree.specs.declared.types.Ty.{Ty}
@@ -22,7 +23,7 @@ use Rattle.ir_tree.proofs.ClearConstants.{const_of}
 use Rattle.ir_tree.proofs.ClearAttributes.{comdat_of, attach_of}
 use Rattle.ir_tree.proofs.ClearEntities.{GtailShape, gtail_back, gtail_shape, gtail_view, gtail_of}
 use Rattle.ir_parse_parts.specs.Parts.{any_of}
-use Rattle.ir_parse_parts.proofs.Longest.{nothing, leaf_some, leaf_none, the_some, the_none, passing_some, passing_none, choice_left, choice_right}
+use Rattle.ir_parse_parts.proofs.Longest.{leaf_some, leaf_none, the_some, the_none, passing_some, passing_none, choice_left, choice_right}
 use Rattle.ir_parse_parts.proofs.Longest.{optional_some, optional_none, pair_some, pair_none, pair_stop, shape_some, shape_none}
 use Rattle.ir_parse_top.specs.declared.globals.Introduction.{Introduction}
 use Rattle.ir_parse_top.specs.declared.globals.Contents.{Contents}
@@ -50,7 +51,7 @@ sees_gwords toks a = go (slice_get toks a)
 -- ---- a part that may not be taken everywhere
 module _ {T : Type 0} (barred : ℕ → Bool) (p : T → Step) (a : ℕ) where
   pub barred_none : true ≡ barred a → Longest (λ t. where_not barred (p t)) a None
-  barred_none h = λ u c e. nothing c (ap (λ z. unless z (p u a)) h ∙ e)
+  barred_none h = λ u c e. none-some c (ap (λ z. unless z (p u a)) h ∙ e)
 
   pub free_by : false ≡ barred a → (r : Option (T × ℕ)) → Longest p a r → Longest (λ t. where_not barred (p t)) a r
   free_by h None l = λ u c e. l u c (unless_false (barred a) (p u a) c e).1

@@ -1,10 +1,12 @@
 -- Productions of which at most one tree fits: how that is shown of a production from its parts.
 use Rattle.std.proofs.Common.{◌≡◌, ℕ, zero, suc, ◌+◌, ◌<◌, ◌≤◌, Bool, true, false, ◌&&◌, eqb, eqb-true, List, [], ◌∷◌, ◌++◌, length, map, Option, None, Some}
 use Rattle.std.proofs.Common.{◌⊎◌, inl, inr, ⊎_elim, refl, sym, ap, ◌∙◌, subst, arith}
+use Rattle.std.proofs.lemmas.Bool.{and_parts, true≢false}
+use Rattle.std.proofs.lemmas.Option.{same_Some}
 use Rattle.ir_tree.specs.declared.terminal.Terminal.{Terminal}
 use Rattle.ir_tree.specs.declared.terminal.Terminal.TheVariants as k
 use Rattle.ir_tree.specs.Steps.{Step, and_then, ◌⨾◌, when, unless, among, sees, stands, the, passing, many, some, optional, next, listed, separated, where_not}
-use Rattle.ir_tree.proofs.Looks.{Test, passes, Look, apart, both, falls, At, at_clash, at_left, at_right, at_nil, at_behind, seen_within}
+use Rattle.ir_tree.proofs.Looks.{Test, passes, Look, apart, At, at_clash, at_left, at_right, at_nil, at_behind, seen_within}
 use Rattle.ir_tree.proofs.Looks.Test.{In}
 
 -- what follows where the test holds
@@ -42,9 +44,6 @@ regroup_from (Some b) g h i = sym (then_then (g b) h i)
 pub regroup : (f g h i : Step) (a : ℕ) → ((f ⨾ g) ⨾ h ⨾ i) a ≡ ((f ⨾ g ⨾ h) ⨾ i) a
 regroup f g h i a = regroup_from (f a) g h i
 
-pub some_same : (a b : ℕ) → Some a ≡ Some b → a ≡ b
-some_same a b e = cc
-
 pub when_true : (x : Bool) (a b : ℕ) → when x a ≡ Some b → (x ≡ true) × (b ≡ a)
 when_true true a b e = (refl, cc)
 when_true false a b e = cc
@@ -79,7 +78,7 @@ module _ (toks : List Terminal) where
 
   pub moves : (first : List Look) (a b : ℕ) → Opened first false a b → (a < b) × At toks first a
   moves first a b (inl h) = h
-  moves first a b (inr h) = absurd (falls h.1)
+  moves first a b (inr h) = absurd (true≢false (sym h.1))
 
   -- ---- one token
   pub token_reads : (x : Test) (a : ℕ) → Reads (passing toks (passes x)) ((x ∷ []) ∷ []) [] false a
@@ -87,15 +86,15 @@ module _ (toks : List Terminal) where
     clear = λ t u b c et eu.
         let ft = when_true (eqb t a && sees toks (passes x) a) (suc a) b et in
         let fu = when_true (eqb u a && sees toks (passes x) a) (suc a) c eu in
-        let st : t ≡ a = eqb-true t a (both (eqb t a) (sees toks (passes x) a) ft.0).0 in
-        let su : u ≡ a = eqb-true u a (both (eqb u a) (sees toks (passes x) a) fu.0).0 in
+        let st : t ≡ a = eqb-true t a (and_parts (eqb t a) (sees toks (passes x) a) ft.0).0 in
+        let su : u ≡ a = eqb-true u a (and_parts (eqb u a) (sees toks (passes x) a) fu.0).0 in
         inl (st ∙ sym su);
     opens = λ t b et.
         let ft = when_true (eqb t a && sees toks (passes x) a) (suc a) b et in
-        inl (omega (arith, ft.1), inl ((both (eqb t a) (sees toks (passes x) a) ft.0).1, tt));
+        inl (omega (arith, ft.1), inl ((and_parts (eqb t a) (sees toks (passes x) a) ft.0).1, tt));
     within = λ t b et inside.
         let ft = when_true (eqb t a && sees toks (passes x) a) (suc a) b et in
-        let here : a < length toks = seen_within toks (passes x) a (both (eqb t a) (sees toks (passes x) a) ft.0).1 in
+        let here : a < length toks = seen_within toks (passes x) a (and_parts (eqb t a) (sees toks (passes x) a) ft.0).1 in
         omega (arith, ft.1, here);
   }
 
@@ -151,7 +150,7 @@ module _ (toks : List Terminal) where
         go : (m n : ℕ) → p x.0 a ≡ Some m → p y.0 a ≡ Some n → q x.1 m ≡ Some b → q y.1 n ≡ Some c → Told (x.0 ≡ y.0) more m n →
             Told (x ≡ y) (more' ++ given empty' more) b c
         go m n et et' eu eu' (inl same) =
-            let place : n ≡ m = some_same n m (sym et' ∙ ap (λ z. p z a) (sym same) ∙ et) in
+            let place : n ≡ m = same_Some n m (sym et' ∙ ap (λ z. p z a) (sym same) ∙ et) in
             told_as more' (more' ++ given empty' more) b c (λ e i. (same i, e i)) (λ i h. at_left toks more' (given empty' more) i h)
             ((q_from x.0 m et).clear x.1 y.1 b c eu (subst (λ z. q y.1 z ≡ Some c) place eu'))
         go m n et et' eu eu' (inr (inl h)) = inr (inl (q_shorter x.0 y.0 x.1 y.1 m n b c et et' eu eu' h.0 h.1))
@@ -209,19 +208,19 @@ module _ (toks : List Terminal) where
         told_as more (first ++ more) b c (λ e. ap Some e) (λ i h. at_right toks first more i h) (of_p.clear t u b c et eu)
     optional_clear None (Some u) b c et eu =
         let h = moves first a c (of_p.opens u c eu) in
-        let place : a ≡ b = some_same a b et in
+        let place : a ≡ b = same_Some a b et in
         inr (inl (omega (arith, place, h.0), at_left toks first more b (subst (λ z. At toks first z) place h.1)))
     optional_clear (Some t) None b c et eu =
         let h = moves first a b (of_p.opens t b et) in
-        let place : a ≡ c = some_same a c eu in
+        let place : a ≡ c = same_Some a c eu in
         inr (inr (omega (arith, place, h.0), at_left toks first more c (subst (λ z. At toks first z) place h.1)))
 
     optional_opens : (x : Option T) (b : ℕ) → optional p x a ≡ Some b → Opened first true a b
-    optional_opens None b et = inr (sym (some_same a b et), refl)
+    optional_opens None b et = inr (sym (same_Some a b et), refl)
     optional_opens (Some t) b et = inl (moves first a b (of_p.opens t b et))
 
     optional_within : (x : Option T) (b : ℕ) → optional p x a ≡ Some b → a ≤ length toks → b ≤ length toks
-    optional_within None b et inside = let place : a ≡ b = some_same a b et in omega (arith, place, inside)
+    optional_within None b et inside = let place : a ≡ b = same_Some a b et in omega (arith, place, inside)
     optional_within (Some t) b et inside = of_p.within t b et inside
 
     pub optional_reads : Reads (optional p) first (first ++ more) true a
@@ -231,7 +230,7 @@ module _ (toks : List Terminal) where
   module _ {T : Type 0} {p : T → Step} {first more : List Look} {n : ℕ} (of_p : (b : ℕ) → n ≤ b →
       Reads p first more false b) (told : apart more first ≡ true) where
     many_opens : (ts : List T) (a b : ℕ) → n ≤ a → many p ts a ≡ Some b → Opened first true a b
-    many_opens [] a b up e = inr (sym (some_same a b e), refl)
+    many_opens [] a b up e = inr (sym (same_Some a b e), refl)
     many_opens (t ∷ ts) a b up e =
         let s = split (p t a) (many p ts) b e in
         let h = moves first a s.0 ((of_p a up).opens t s.0 s.1.0) in
@@ -254,7 +253,7 @@ module _ (toks : List Terminal) where
     many_clear : (ts us : List T) (a b c : ℕ) → n ≤ a → many p ts a ≡ Some b → many p us a ≡ Some c → Told (ts ≡ us) (first ++ more) b c
     many_clear [] [] a b c up et eu = inl refl
     many_clear [] (u ∷ us) a b c up et eu =
-        let place : a ≡ b = some_same a b et in
+        let place : a ≡ b = same_Some a b et in
         let h = moves_on u us a c up eu in
         inr (inl (omega (arith, place, h.0), at_left toks first more b (subst (λ z. At toks first z) place h.1)))
       where
@@ -265,7 +264,7 @@ module _ (toks : List Terminal) where
             let on : s.0 ≤ c = many_ends us s.0 c (omega (arith, h.0)) s.1.1 in
             (omega (arith, h.0, on), h.1)
     many_clear (t ∷ ts) [] a b c up et eu =
-        let place : a ≡ c = some_same a c eu in
+        let place : a ≡ c = same_Some a c eu in
         let s = split (p t a) (many p ts) b et in
         let h = moves first a s.0 ((of_p a up).opens t s.0 s.1.0) in
         let on : s.0 ≤ b = many_ends ts s.0 b (omega (arith, h.0)) s.1.1 in
@@ -277,7 +276,7 @@ module _ (toks : List Terminal) where
         let hr = moves first a r.0 ((of_p a up).opens u r.0 r.1.0) in
         ⊎_elim
         (λ same.
-        let place : r.0 ≡ s.0 = some_same r.0 s.0 (sym r.1.0 ∙ ap (λ z. p z a) (sym same) ∙ s.1.0) in
+        let place : r.0 ≡ s.0 = same_Some r.0 s.0 (sym r.1.0 ∙ ap (λ z. p z a) (sym same) ∙ s.1.0) in
         told_as (first ++ more) (first ++ more) b c (λ e i. same i ∷ e i) (λ i h. h) (many_clear ts us s.0 b c (omega (
           arith,
           hs.0,
@@ -289,7 +288,7 @@ module _ (toks : List Terminal) where
         ((of_p a up).clear t u s.0 r.0 s.1.0 r.1.0)
 
     many_within : (ts : List T) (a b : ℕ) → n ≤ a → many p ts a ≡ Some b → a ≤ length toks → b ≤ length toks
-    many_within [] a b up e inside = let place : a ≡ b = some_same a b e in omega (arith, place, inside)
+    many_within [] a b up e inside = let place : a ≡ b = same_Some a b e in omega (arith, place, inside)
     many_within (t ∷ ts) a b up e inside =
         let s = split (p t a) (many p ts) b e in
         let h = moves first a s.0 ((of_p a up).opens t s.0 s.1.0) in
@@ -356,7 +355,7 @@ module _ (toks : List Terminal) where
       opens = λ x b ex.
           let u = unless_false (stands toks t a) (p x a) b ex in
           let h = moves ((In (t ∷ []) ∷ []) ∷ first) a b (of_p.opens x b u.1) in
-          inl (h.0, ⊎_elim (λ here. let e : false ≡ true = sym u.0 ∙ here.0 in absurd (falls e)) (λ later. later) h.1);
+          inl (h.0, ⊎_elim (λ here. let e : false ≡ true = sym u.0 ∙ here.0 in absurd (true≢false (sym e))) (λ later. later) h.1);
       within = λ x b ex. of_p.within x b (unless_false (stands toks t a) (p x a) b ex).1;
     }
 

@@ -4,6 +4,8 @@ use Rattle.std.proofs.Common.{refl, subst}
 use Rattle.std.specs.List.{list_all}
 use Rattle.std.proofs.lemmas.Option.{slice_get_within}
 use Rattle.std.specs.Prelude.{slice_get}
+use Rattle.std.proofs.lemmas.Bool.{and_parts, or_cases, true≢false}
+use Rattle.std.proofs.Common.{sym}
 use denote.Enum.Bare.{same_true}
 use Rattle.ir_tree.specs.contracts.terminal.Terminal.{the_type}
 use Rattle.ir_tree.specs.declared.terminal.Terminal.{Terminal}
@@ -40,33 +42,22 @@ abbrev pub apart : List Look → List Look → Bool
 apart ls ms = list_all (λ l. apart_from l ms) ls
 
 -- ---- truth
-pub both : (x y : Bool) → (x && y) ≡ true → (x ≡ true) × (y ≡ true)
-both true y e = (refl, e)
-both false y e = cc
-
-pub one : (x y : Bool) → (x || y) ≡ true → (x ≡ true) ⊎ (y ≡ true)
-one true y e = inl refl
-one false y e = inr e
-
 pub clash : (x : Bool) → x ≡ true → not x ≡ true → ⊥
 clash true e n = cc
 clash false e n = cc
 
-pub falls : false ≡ true → ⊥
-falls e = cc
-
 all_among : (set : List Terminal) (test : Terminal → Bool) (t : Terminal) → list_all test set ≡ true → among set t ≡ true → test t ≡ true
-all_among [] test t all e = absurd (falls e)
+all_among [] test t all e = absurd (true≢false (sym e))
 all_among (k ∷ set) test t all e =
-    let here = both (test k) (list_all test set) all in
+    let here = and_parts (test k) (list_all test set) all in
     ⊎_elim (λ same. subst (λ x. test x ≡ true) (same_true the_type tt k t same) here.0) (λ later. all_among set test t here.1 later)
-    (one (is k t) (among set t) e)
+    (or_cases (is k t) (among set t) e)
 
 tests_clash : (x y : Test) (t : Terminal) → apart_tests x y ≡ true → passes x t ≡ true → passes y t ≡ true → ⊥
 tests_clash (In set) (In other) t apart' h k = clash (among other t) k (all_among set (λ z. not (among other z)) t apart' h)
 tests_clash (In set) (Out other) t apart' h k = clash (among other t) (all_among set (among other) t apart' h) k
 tests_clash (Out other) (In set) t apart' h k = clash (among other t) (all_among set (among other) t apart' k) h
-tests_clash (Out set) (Out other) t apart' h k = falls apart'
+tests_clash (Out set) (Out other) t apart' h k = true≢false (sym apart')
 
 pub token_seen : (toks : List Terminal) (test : Terminal → Bool) (a : ℕ) → sees toks test a ≡ true → (t : Terminal) ×
     ((slice_get toks a ≡ Some t) × (test t ≡ true))
@@ -74,7 +65,7 @@ unfolding sees
 token_seen toks test a e = go (slice_get toks a) e
   where
     go : (o : Option Terminal) → seen test o ≡ true → (t : Terminal) × ((o ≡ Some t) × (test t ≡ true))
-    go None h = absurd (falls h)
+    go None h = absurd (true≢false (sym h))
     go (Some t) h = (t, (refl, h))
 
 module _ (toks : List Terminal) where
@@ -95,22 +86,22 @@ module _ (toks : List Terminal) where
       tests_clash x y r.0 apart' (subst (λ t. passes x t ≡ true) same s.1.1) r.1.1
 
   looks_clash : (l m : Look) (a : ℕ) → apart_looks l m ≡ true → Begins l a → Begins m a → ⊥
-  looks_clash [] m a apart' h k = falls apart'
-  looks_clash (x ∷ l) [] a apart' h k = falls apart'
+  looks_clash [] m a apart' h k = true≢false (sym apart')
+  looks_clash (x ∷ l) [] a apart' h k = true≢false (sym apart')
   looks_clash (x ∷ l) (y ∷ m) a apart' h k =
-      ⊎_elim (λ here. seen_clash x y a here h.0 k.0) (λ later. looks_clash l m (suc a) later h.1 k.1) (one (apart_tests x y) (apart_looks l m) apart')
+      ⊎_elim (λ here. seen_clash x y a here h.0 k.0) (λ later. looks_clash l m (suc a) later h.1 k.1) (or_cases (apart_tests x y) (apart_looks l m) apart')
 
   from_clash : (l : Look) (ms : List Look) (a : ℕ) → apart_from l ms ≡ true → Begins l a → At ms a → ⊥
   from_clash l [] a apart' h k = k
   from_clash l (m ∷ ms) a apart' h k =
-      let parts = both (apart_looks l m) (apart_from l ms) apart' in
+      let parts = and_parts (apart_looks l m) (apart_from l ms) apart' in
       ⊎_elim (λ here. looks_clash l m a parts.0 h here) (λ later. from_clash l ms a parts.1 h later) k
 
   -- no place is at both of two sets that are apart
   pub at_clash : (ls ms : List Look) (a : ℕ) → apart ls ms ≡ true → At ls a → At ms a → ⊥
   at_clash [] ms a apart' h k = h
   at_clash (l ∷ ls) ms a apart' h k =
-      let parts = both (apart_from l ms) (apart ls ms) apart' in
+      let parts = and_parts (apart_from l ms) (apart ls ms) apart' in
       ⊎_elim (λ here. from_clash l ms a parts.0 here k) (λ later. at_clash ls ms a parts.1 later k) h
 
   pub at_left : (ls ms : List Look) (a : ℕ) → At ls a → At (ls ++ ms) a

@@ -58,7 +58,7 @@ found_memory : (a : Access) (l : Location) (all : List CallAttrs) → list_any (
     (access : MemoryAttr) × (list_any (is_written (Memory access)) all ≡ true) × (forbids_at a l access ≡ true)
 found_memory a l [] e = absurd (cc)
 found_memory a l (attrs ∷ all) e =
-    elim (or_cases (option_map_or (forbids_at a l) attrs.func.memory false) (list_any (λ attrs. option_map_or (forbids_at a l) attrs.func.memory false) all) e) [
+    elim (or_cases (option_map_or (forbids_at a l) attrs.func.memory false) (list_any (λ it. option_map_or (forbids_at a l) it.func.memory false) all) e) [
       | inl here ↦ by attrs.func.memory refl here
       | inr later ↦
           let found = found_memory a l all later in

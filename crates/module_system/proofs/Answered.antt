@@ -6,6 +6,7 @@ use Rattle.std.specs.List.{flat_map}
 use Rattle.std.proofs.lemmas.Bool.{and_parts}
 use Rattle.std.proofs.lemmas.List.{length-map}
 use Rattle.std.proofs.lemmas.List.Elements.{All-from_get_or, All-map}
+use Rattle.lattice_words.specs.declared.word.TheConstants.{FACT_BITS}
 use Rattle.lattice_words.proofs.WordBits.{word_of-lt}
 use Rattle.attr_ids.specs.declared.ids.PosId.{PosId}
 use Rattle.ir_module.specs.declared.module.Module.{Module}
@@ -44,13 +45,13 @@ all_control m (pos.Return f) bit e = crash e
 all_control m (pos.Reach row k) bit e = crash e
 
 -- masks have bits of facts alone
-pub small_masks : (m : Module) (ps : Numbered) → IsNumbering m ps → All (λ mask. mask < 2 ^ 47) ps.masks
-small_masks m ps is = subst (All (λ mask. mask < 2 ^ 47)) (sym is.masks)
-    (All-map (λ mask. mask < 2 ^ 47) (mask_of m) ps.list
-    (All-from_get_or (λ p. mask_of m p < 2 ^ 47) ps.list (pos.Segment (record {
+pub small_masks : (m : Module) (ps : Numbered) → IsNumbering m ps → All (λ mask. mask < 2 ^ FACT_BITS) ps.masks
+small_masks m ps is = subst (All (λ mask. mask < 2 ^ FACT_BITS)) (sym is.masks)
+    (All-map (λ mask. mask < 2 ^ FACT_BITS) (mask_of m) ps.list
+    (All-from_get_or (λ p. mask_of m p < 2 ^ FACT_BITS) ps.list (pos.Segment (record {
       0 =
           0;
-    })) (λ i l. word_of-lt (is_bit m (get_or ps.list i (pos.Segment (record { 0 = 0 })))) 47)))
+    })) (λ i l. word_of-lt (is_bit m (get_or ps.list i (pos.Segment (record { 0 = 0 })))) FACT_BITS)))
 
 pub long_masks : (m : Module) (ps : Numbered) → IsNumbering m ps → length ps.masks ≡ length ps.list
 long_masks m ps is = ap length is.masks ∙ length-map ps.list (mask_of m)

@@ -10,6 +10,7 @@ use Rattle.std.proofs.lemmas.List.{length-map, get_or_past}
 use Rattle.std.proofs.lemmas.List.Elements.{All-get_or, All-from_get_or}
 use Rattle.std.proofs.lemmas.Nat.{and_le_l}
 use Rattle.std.proofs.lemmas.Nat.Bits.{bit_at-lt, bit_at_above, bit_at-zero, bit_at_and}
+use Rattle.lattice_words.specs.declared.word.TheConstants.{FACT_BITS}
 use Rattle.lattice_words.specs.Words.{has_bit, bit_of, word_of, IsWithin}
 use Rattle.lattice_words.proofs.WordBits.{bit_at-word_of, word_of-lt}
 use Rattle.ir_module.specs.declared.module.Module.{Module}
@@ -111,14 +112,14 @@ module _ (m : Module) (ps : Numbered) (is : IsNumbering m ps) (s : System) (of :
           let and = bit_at_and w (meaning word t) i in
           omega (arith, rest, and)
 
-  mask_small : (n : ℕ) → slice_index ps.masks n < 2 ^ 47
+  mask_small : (n : ℕ) → slice_index ps.masks n < 2 ^ FACT_BITS
   mask_small n = by (slice_get ps.list n) refl
     where
       long : length ps.masks ≡ length ps.list
       long = ap length is.masks ∙ length-map ps.list (mask_of m)
 
-      by : (o : Option Pos) → slice_get ps.list n ≡ o → slice_index ps.masks n < 2 ^ 47
-      by (Some p) at = let same = mask_at m ps is n p at in let small = word_of-lt (is_bit m p) 47 in omega (arith, same, small)
+      by : (o : Option Pos) → slice_get ps.list n ≡ o → slice_index ps.masks n < 2 ^ FACT_BITS
+      by (Some p) at = let same = mask_at m ps is n p at in let small = word_of-lt (is_bit m p) FACT_BITS in omega (arith, same, small)
       by None none = let past = none_past ps.list n none in let zero = get_or_past ps.masks n 0 (omega (arith, past, long)) in omega (arith, zero)
 
   -- ---- effects raised
@@ -264,7 +265,7 @@ module _ (m : Module) (ps : Numbered) (is : IsNumbering m ps) (s : System) (of :
     -- the facts of a position as a word
     abbrev based_at : Option Pos → ℕ
     based_at None = 0
-    based_at (Some p) = word_of (λ bit. other (fact p bit)) 47
+    based_at (Some p) = word_of (λ bit. other (fact p bit)) FACT_BITS
 
     abbrev base : ℕ → ℕ
     base n = based_at (slice_get ps.list n)
@@ -275,25 +276,25 @@ module _ (m : Module) (ps : Numbered) (is : IsNumbering m ps) (s : System) (of :
         test : ℕ → Bool
         test b = other (fact p b)
 
-        down : IsSet (word_of test 47) bit → test bit ≡ true
-        down h = elim (cases_lt bit 47) [
-          | inl low ↦ one (test bit) (sym (bit_at-word_of test 47 bit low) ∙ h)
-          | inr high ↦ absurd (let none = bit_at_above (word_of test 47) 47 bit (word_of-lt test 47) high in omega (arith, none, h))
+        down : IsSet (word_of test FACT_BITS) bit → test bit ≡ true
+        down h = elim (cases_lt bit FACT_BITS) [
+          | inl low ↦ one (test bit) (sym (bit_at-word_of test FACT_BITS bit low) ∙ h)
+          | inr high ↦ absurd (let none = bit_at_above (word_of test FACT_BITS) FACT_BITS bit (word_of-lt test FACT_BITS) high in omega (arith, none, h))
         ]
           where
             one : (b : Bool) → bit_of b ≡ 1 → b ≡ true
             one true e = refl
             one false e = absurd (omega (arith, e))
 
-        up : test bit ≡ true → IsSet (word_of test 47) bit
-        up h = bit_at-word_of test 47 bit (is_bit_small m p bit (self (fact p bit) h).0.1) ∙ ap bit_of h
+        up : test bit ≡ true → IsSet (word_of test FACT_BITS) bit
+        up h = bit_at-word_of test FACT_BITS bit (is_bit_small m p bit (self (fact p bit) h).0.1) ∙ ap bit_of h
 
     base_small : (n : ℕ) → base n < 2 ^ 64
     base_small n = by (slice_get ps.list n)
       where
         by : (o : Option Pos) → based_at o < 2 ^ 64
         by None = omega arith
-        by (Some p) = let small = word_of-lt (λ bit. other (fact p bit)) 47 in omega (arith, small)
+        by (Some p) = let small = word_of-lt (λ bit. other (fact p bit)) FACT_BITS in omega (arith, small)
 
     base_legal : AreLegal ps base
     base_legal n = (base_small n, within)

@@ -163,7 +163,9 @@ module _ (words : LatticeWords) (seats : List WorkerSeat) (are : AreSeatsOf word
     module _ (all : All (KnowsAll (length (system_in words).masks)) (map core_of seats)) where
       knows_at : (i : ℕ) (seat : WorkerSeat) → slice_get seats i ≡ Some seat → KnowsAll (length (system_in words).masks) (core_of seat)
       knows_at i seat at =
-          let l : i < length (map core_of seats) = (let m = slice_get_within seats i seat at in let long = length-map seats core_of in omega (arith, m, long)) in
+          let m = slice_get_within seats i seat at in
+          let long = length-map seats core_of in
+          let l : i < length (map core_of seats) = omega (arith, m, long) in
           subst (KnowsAll (length (system_in words).masks)) (get_or_from_slice_get (map core_of seats) i (core_of seat) (core_of seat)
           (mapped_at seats i seat at)) (all i (core_of seat) l) where
             mapped_at : (ss : List WorkerSeat) (i : ℕ) (seat : WorkerSeat) → slice_get ss i ≡ Some seat → slice_get (map core_of ss) i ≡ Some (core_of seat)

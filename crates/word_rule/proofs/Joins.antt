@@ -189,7 +189,8 @@ module _ (k : Key) (t : State (Unit {0}) View) (r : IsRuled k t) (v : View) (at 
   gone_before e gone =
       let apart : e.number ≢ other = λ is. is_live k t r other w there belongs
       (same_at t.views other w spent there (subst (λ j. get_elem? t.views j ≡ some spent) is gone.away)) in
-      let first : e.number ≢ 0 = λ is. is_live k t r 0 v at about (same_at t.views 0 v spent at (subst (λ j. get_elem? t.views j ≡ some spent) is gone.away)) in (
+      let first : e.number ≢ 0 = λ is. is_live k t r 0 v at about
+      (same_at t.views 0 v spent at (subst (λ j. get_elem? t.views j ≡ some spent) is gone.away)) in (
         apart,
         record {
           away = set_else (set t.views 0 (after_joining v w)) other e.number spent apart ∙ set_else t.views 0 e.number (after_joining v w) first ∙

@@ -1,5 +1,6 @@
 use Rattle.std.proofs.Common.{◌≡◌, ◌^◌, ◌<◌, ◌+◌, ◌∷◌, All, sym, subst, ap, ◌∙◌, drop, get_or, length, map, arith}
 use Rattle.std.proofs.lemmas.List.{drop_more}
+use Rattle.lattice_words.specs.declared.word.TheConstants.{FACT_BITS}
 use Rattle.slice_module.specs.declared.module.Func.{Func}
 use Rattle.slice_module.specs.Module.{calls_of}
 use Rattle.attrib.specs.Deduced.{term_of, with_terms, with_functions}
@@ -8,7 +9,7 @@ use Rattle.attrib.proofs.Terms.{masks_small}
 use Rattle.attrib.proofs.deduce.system.Goals as goal
 
 pub new-requires-clause-facts : goal.new-requires-clause-facts
-new-requires-clause-facts c = subst (All (λ w. w < 2 ^ 47)) (sym c.in_ok-masks.ensures) (masks_small c.args.m.now)
+new-requires-clause-facts c = subst (All (λ w. w < 2 ^ FACT_BITS)) (sym c.in_ok-masks.ensures) (masks_small c.args.m.now)
 
 pub loop-i-preserved : goal.loop-i-preserved
 loop-i-preserved c =

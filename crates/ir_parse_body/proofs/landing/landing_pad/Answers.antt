@@ -1,7 +1,7 @@
 use Rattle.std.proofs.Common.{refl, sym, subst}
+use Rattle.std.proofs.lemmas.Bool.{true≢false}
 use Rattle.ir_tree.specs.Steps.{Longest}
 use Rattle.ir_tree.specs.Types.{ty}
-use Rattle.ir_tree.proofs.Looks.{falls}
 use Rattle.ir_parse_body.proofs.LongestLanding.{landing_no_type, landing_cleans, landing_no_clause, landing_catches}
 use Rattle.ir_parse_body.proofs.landing.landing_pad.Goals as goal
 
@@ -28,4 +28,4 @@ returns c =
     let ts = c.args.toks.now in
     landing_catches ts c.args.start c.args.first (sym c.requires.after) c.in-Some.kind c.in-Some.cleanup
     (subst (Longest (ty ts) c.args.first) c.in-Some.is c.in_ok-kind.ensures) c.in_ok-clauses-2.next c.in_ok-clauses-2.clauses c.in_default-the.ensures.value
-    c.in_ok-clauses-2.ensures (λ e. falls (c.if-is_empty.ensures.1 e))
+    c.in_ok-clauses-2.ensures (λ e. true≢false (sym (c.if-is_empty.ensures.1 e)))

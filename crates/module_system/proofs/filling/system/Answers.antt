@@ -1,4 +1,5 @@
 use Rattle.std.proofs.Common.{arith, ◌≡◌, ◌<◌, ◌^◌, All, List, length, sym, ap, subst, ◌∙◌}
+use Rattle.lattice_words.specs.declared.word.TheConstants.{FACT_BITS}
 use Rattle.module_system.proofs.Answered.{small_masks, long_masks, answered, inputs_named, inputs_counted}
 use Rattle.module_system.proofs.Composed.{composed}
 use Rattle.module_system.specs.Filled.{IsSystemOf}
@@ -16,7 +17,7 @@ new-requires-clause-fits c =
 
 pub new-requires-clause-facts : goal.new-requires-clause-facts
 new-requires-clause-facts c =
-    subst (All (λ mask. mask < 2 ^ 47)) (sym c.in_ok-masks.ensures) (small_masks c.args.m.now c.args.p.now c.requires.numbering)
+    subst (All (λ mask. mask < 2 ^ FACT_BITS)) (sym c.in_ok-masks.ensures) (small_masks c.args.m.now c.args.p.now c.requires.numbering)
 
 the_system : (c : After-count-count) → IsSystemOf c.args.m.now c.args.p.now c.terms.new.s
 the_system c =
