@@ -38,7 +38,7 @@ use Rattle.ir_machine.specs.Meanings.{IsArgumentBlock, PointsTo}
 use Rattle.ir_machine.specs.Valid.{Scope, AreBlocks, AreOrdered}
 use Rattle.fact_meanings.specs.Values.{IsOfClass, FrameIsRight}
 use Rattle.law_premises.specs.Premises.{JustifiesItself, StandLive}
-use Rattle.laws_effects.specs.Addresses.{HasTypedAddresses}
+use Rattle.law_premises.specs.Types.{HasTypedAddresses}
 use Rattle.laws_effects.proofs.Entering.{HasPlaces}
 use Rattle.laws_effects.proofs.Permits.{decide, has, has_over, Permits, PermitsHidden, rule}
 

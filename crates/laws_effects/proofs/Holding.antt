@@ -23,7 +23,7 @@ use Rattle.ir_machine.proofs.Running.{IsValidStep, all_valid}
 use Rattle.fact_meanings.specs.Values.{FramesAreRight}
 use Rattle.fact_meanings.specs.Runs.{left, allowed, memory_of}
 use Rattle.law_premises.specs.Premises.{JustifiesItself, IsControlled}
-use Rattle.laws_effects.specs.Addresses.{PassesAddresses}
+use Rattle.law_premises.specs.Types.{PassesAddresses}
 use Rattle.laws_effects.proofs.Entering.{Placed, all_placed}
 use Rattle.laws_effects.proofs.Quiet.{run_given, both_of, Says_well}
 use Rattle.laws_effects.proofs.Permits.{has_as, has, Permits, PermitsHidden}

@@ -4,3 +4,4 @@ pub mod Permits
 pub mod Accesses
 pub mod Steps
 pub mod Holding
+pub mod Reaching

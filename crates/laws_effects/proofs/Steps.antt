@@ -45,7 +45,7 @@ use Rattle.ir_machine.proofs.Valid.{known_closed}
 use Rattle.ir_machine.proofs.Arguments.{read_is}
 use Rattle.fact_meanings.specs.Values.{FrameIsRight, FramesAreRight}
 use Rattle.law_premises.specs.Premises.{JustifiesItself, StandLive, IsControlled}
-use Rattle.laws_effects.specs.Addresses.{HasTypedAddresses, PassesAddresses}
+use Rattle.law_premises.specs.Types.{HasTypedAddresses, PassesAddresses}
 use Rattle.laws_effects.proofs.Entering.{HasPlaces}
 use Rattle.laws_effects.proofs.Quiet.{Says_well, said_well, IsQuiet, quiet_says, marks_quiet}
 use Rattle.laws_effects.proofs.Permits.{has, Permits, PermitsHidden, outer_permits, outer_hidden, rule}

@@ -1,0 +1,4 @@
+pub mod Typing
+pub mod Passing
+pub mod Stepping
+pub mod Holding
