@@ -6,7 +6,7 @@ use Rattle.slice_module.specs.Tables.{resolved}
 use Rattle.slice_facts.specs.Printed.{insertions_of}
 use Rattle.facts.specs.Facts.{Fact, nounwind_of}
 use Rattle.facts.specs.Justified.{IsGreatest}
-use Rattle.laws_control.specs.Soundness.{IsSound}
+use Rattle.soundness.specs.Soundness.{IsSound}
 use Rattle.weave.specs.Woven.{Woven}
 
 -- the text b is in the slice, and has as many bytes as are allowed

@@ -5,18 +5,11 @@ pub use Rattle.slice_facts.specs.Module
 pub use Rattle.slice_facts.specs.Tables
 pub use Rattle.slice_facts.specs.Facts as Written
 pub use Rattle.slice_facts.specs.Printed
-pub use Rattle.laws_control.specs.Places
-pub use Rattle.laws_control.specs.Calls
-pub use Rattle.laws_control.specs.Formed
-pub use Rattle.laws_control.specs.Frames
-pub use Rattle.laws_control.specs.Machine
-pub use Rattle.laws_control.specs.Runs
-pub use Rattle.laws_control.specs.Meanings
-pub use Rattle.laws_control.specs.Kinds
-pub use Rattle.laws_control.specs.Facts
-pub use Rattle.laws_control.specs.Masks
-pub use Rattle.laws_control.specs.Justified
-pub use Rattle.laws_control.specs.Soundness
+pub use Rattle.facts.specs.Kinds
+pub use Rattle.facts.specs.Facts
+pub use Rattle.facts.specs.Masks
+pub use Rattle.facts.specs.Justified
+pub use Rattle.soundness.specs.Soundness
 pub use Rattle.weave.specs.Woven
 pub mod Annotated
 pub mod Deduced

@@ -9,7 +9,7 @@ use Rattle.slice_facts.specs.Facts.{held_in}
 use Rattle.slice_facts.proofs.Rising.{in_order, within}
 use Rattle.slice_module.specs.Tables.{resolved}
 use Rattle.slice_module.proofs.Formed.{formed}
-use Rattle.laws_control.proofs.Unwinding.{holds}
+use Rattle.soundness.proofs.Sound.{sound}
 use Rattle.weave.specs.Woven.{Woven}
 use Rattle.attrib.specs.Deduced.{facts_of}
 use Rattle.slice_module.proofs.Counting.{few_mentions}
@@ -58,5 +58,5 @@ returns-clause-annotated g c =
       held = held;
       greatest = greatest;
       woven = subst (λ (ins : List Insertion). Woven c.args.text.now ins c.in_ok-bytes.bytes) c.in_ok-insertions.ensures c.in_ok-bytes.ensures;
-      holds = holds (resolved c.args.text.now m) held greatest.is_one (formed m c.args.text.now (omega arith) c.in-Ok.ensures.accepted);
+      holds = sound (resolved c.args.text.now m) (formed m c.args.text.now (omega arith) c.in-Ok.ensures.accepted) held greatest.is_one;
     }

@@ -1,4 +1,0 @@
-pub mod Instructions
-pub mod Runs
-pub mod Linking
-pub mod Numbers
