@@ -1,0 +1,10 @@
+pub mod Good
+pub mod Rules
+pub mod Frames
+pub mod Results
+pub mod Crossing
+pub mod Stepping
+pub mod Acting
+pub mod Quiet
+pub mod Returning
+pub mod Holding
