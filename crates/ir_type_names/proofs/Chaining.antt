@@ -1,11 +1,12 @@
 -- A chain that ends does so within as many steps as there are names.
-use Rattle.std.proofs.Common.{◌≡◌, ℕ, zero, suc, ◌+◌, ◌-◌, ◌<◌, ◌≤◌, Bool, true, false, ◌||◌, eqb, ◌⊎◌, inl, inr, ⊎_elim, List, [], ◌∷◌, length, refl, sym, ap}
-use Rattle.std.proofs.Common.{subst, ◌∙◌, arith}
+use Rattle.std.proofs.Common.{◌≡◌, ℕ, zero, suc, ◌+◌, ◌-◌, ◌<◌, ◌≤◌, true, false, ◌||◌, eqb, inl, inr, ⊎_elim, List, [], ◌∷◌, length, refl, sym, ap}
+use Rattle.std.proofs.Common.{subst, ◌∙◌, arith, cond}
 use Rattle.std.specs.List.{list_any, IsDistinct, AllByRecursion}
 use Rattle.std.proofs.lemmas.Bool.{cases_lt}
 use Rattle.std.proofs.lemmas.Bool.Decides.{eqb_tells}
 use Rattle.std.proofs.lemmas.Map.Steps.{length-le_from_distinct_below}
-use Rattle.ir_type_names.specs.Chains.{step, after, Jumps, Ends, AreEnds}
+use Rattle.ir_type_names.specs.Chains.{step, after, Ends, AreEnds}
+use Rattle.ir_type_names.specs.Contents.{stands_for}
 use Rattle.ir_type_names.proofs.Doubling.{after_add, step_past}
 
 -- a name that leads to itself
@@ -122,3 +123,37 @@ module _ (nexts : List ℕ) where
   -- and what is found and leads to itself is the end
   pub found_ends : (ends : List ℕ) (k : ℕ) → AreEnds nexts ends → Stays nexts (step ends k) → Ends nexts k (step ends k)
   found_ends ends k are is = ((are.0, sym (are.1.1 k)), is)
+
+  -- it ends within as many steps as there are names
+  ends_in : (k e : ℕ) → Ends nexts k e → after nexts (length nexts) k ≡ e
+  ends_in k e is =
+      let f = first is.0.0 k (subst (Stays nexts) (sym is.0.1) is.1) in
+      let within : f.0 ≤ length nexts = few f.0 k f.1.1.1 f.1.1.0 in
+      stays_from f.0 (length nexts) k within f.1.1.0 ∙ sym (stays_from f.0 is.0.0 k f.1.0 f.1.1.0) ∙ is.0.1
+
+  -- whatever list of ends there is, a name stands for the one that its chain ends at, or for itself
+  stands_found : (ends : List ℕ) (k e : ℕ) → AreEnds nexts ends → e ≡ step ends k → cond (eqb (step nexts e) e) e k ≡ stands_for nexts k
+  stands_found ends k e are is = elim (eqb_tells (step nexts e) e) [
+    | inl (_, leads) ↦
+        (let same : after nexts (length nexts) k ≡ e = ends_in k e (subst (Ends nexts k) (sym is) (found_ends ends k are (subst (Stays nexts) is leads))) in
+        ap (λ z. cond (eqb (step nexts z) z) z k) (sym same))
+    | inr (on, moves) ↦ (elim (eqb_tells (step nexts (after nexts (length nexts) k)) (after nexts (length nexts) k)) [
+      | inl (_, leads) ↦
+          (let same : e ≡ after nexts (length nexts) k = is ∙ ends_found ends k (after nexts (length nexts) k) are ((length nexts, refl), leads) in
+          absurd (moves (subst (Stays nexts) (sym same) leads)))
+      | inr (never, _) ↦ (ap (λ b. cond b e k) on ∙ sym (ap (λ b. cond b (after nexts (length nexts) k) k) never))
+    ])
+  ]
+
+  -- the same of an end that leads to itself, and of one that does not
+  pub stands_then : (ends : List ℕ) (k e s : ℕ) → AreEnds nexts ends → e ≡ step ends k → s ≡ step nexts e → s ≡ e → e ≡ stands_for nexts k
+  stands_then ends k e s are is next leads = elim (eqb_tells (step nexts e) e) [
+    | inl (alike, _) ↦ (sym (ap (λ b. cond b e k) alike) ∙ stands_found ends k e are is)
+    | inr (_, moves) ↦ (absurd (moves (sym next ∙ leads)))
+  ]
+
+  pub stands_else : (ends : List ℕ) (k e s : ℕ) → AreEnds nexts ends → e ≡ step ends k → s ≡ step nexts e → (s ≡ e → ⊥) → k ≡ stands_for nexts k
+  stands_else ends k e s are is next moves = elim (eqb_tells (step nexts e) e) [
+    | inl (_, leads) ↦ (absurd (moves (next ∙ leads)))
+    | inr (unlike, _) ↦ (sym (ap (λ b. cond b e k) unlike) ∙ stands_found ends k e are is)
+  ]

@@ -1,2 +1,15 @@
 pub mod Doubling
 pub mod Chaining
+pub mod Trees
+pub mod Found
+pub mod Taking
+pub mod Numbering
+pub mod Marking
+pub mod Naming
+pub mod Counted
+pub mod Missing
+pub mod Uses
+pub mod Earlier
+pub mod Least
+pub mod Sharing
+pub mod Present

@@ -1,1 +1,9 @@
 pub mod Chains
+pub mod Reading
+pub mod Numbers
+pub mod Tables
+pub mod Contents
+pub mod Bodies
+pub mod Places
+pub mod Unknown
+pub mod Laws

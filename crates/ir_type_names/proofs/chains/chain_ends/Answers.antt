@@ -1,4 +1,4 @@
-use Rattle.std.proofs.Common.{◌≡◌, ◌*◌, ◌∙◌, sym, ap, map, subst, arith}
+use Rattle.std.proofs.Common.{◌*◌, ◌∙◌, sym, ap, map, subst, arith}
 use Rattle.ir_type_names.specs.Chains.{step, Jumps}
 use Rattle.ir_type_names.proofs.Doubling.{jumps_one, jumps_twice}
 use Rattle.ir_type_names.proofs.chains.chain_ends.Goals as goal

@@ -1,4 +1,4 @@
-use Rattle.std.proofs.Common.{◌≡◌, ◌-◌, ◌≤◌, length}
+use Rattle.std.proofs.Common.{◌-◌, ◌≤◌, length}
 use Rattle.ir_type_names.specs.Chains.{Jumps}
 use Rattle.ir_type_names.proofs.chains.chain_ends.Given as goal
 
