@@ -1,0 +1,9 @@
+pub mod Equations
+pub mod Below
+pub mod Broken
+pub mod Wrapping
+pub mod Adding
+pub mod Lists
+pub mod Runs
+pub mod Walking
+pub mod Judged

@@ -1,0 +1,10 @@
+pub mod Kinds
+pub mod Source
+pub mod Reading
+pub mod Decide
+pub mod Broken
+pub mod Offsets
+pub mod Consts
+pub mod Below
+pub mod Chains
+pub mod Faults
