@@ -1,0 +1,9 @@
+use Rattle.std.proofs.Common.{ℕ}
+use Rattle.ir_module.specs.declared.edge.Edge.{Edge}
+use Rattle.ir_module.specs.Edges.{edges}
+use Rattle.ir_rules.specs.Blocks.{Lands}
+use Rattle.ir_module.proofs.Each.{EachOf}
+use Rattle.ir_rules.proofs.blocks.all_land.Given as goal
+
+abbrev pub invariant-loop-k : goal.invariant-loop-k
+invariant-loop-k l = EachOf l.k (edges l.op) (λ (k : ℕ) (e : Edge). Lands l.m e.to.0 e.way)
