@@ -2,7 +2,7 @@
 use crate::calls::{NO_ATTRS, NO_FUNC_ATTRS};
 use crate::instrs::add_instr;
 use crate::operands::{operand, operand_if};
-use crate::words::{id, ty, word};
+use crate::words::{id, number, ty, word};
 use attr_ids::{BlockId, FuncId, NoMemory, Offsets, SegId, Sequence, Span, Text, TypeId, ValueId};
 use ir_module::{
     Block, Blocks, Def, Func, FuncPlaces, Funcs, GlobalVar, Globals, Instrs, Linkage, Module,
@@ -13,10 +13,12 @@ use std::alloc::Global;
 use std::mem;
 use std::str::SplitWhitespace;
 
-/// A module, and what waits for the function and the segment that it belongs to.
+/// A module, what waits for the function and the segment that it belongs to, and the number of the line at hand, at which
+/// its entry counts as written.
 #[derive(Drop)]
 pub(crate) struct Desk {
     pub module: Module,
+    pub line: u32,
     params: Params,
     extra: Operands,
     instrs: Instrs,
@@ -90,21 +92,32 @@ fn block(alloc: Global, words: &mut SplitWhitespace<'_>) -> Block {
     }
 }
 
-fn global(alloc: Global, words: &mut SplitWhitespace<'_>) -> GlobalVar {
+fn global(alloc: Global, at: u32, words: &mut SplitWhitespace<'_>) -> GlobalVar {
     GlobalVar {
         name: Text::new(alloc),
         linkage: Linkage::Plain,
         ty: ty(words),
         init: operand_if(words),
         align: None,
-        at: 0,
+        at,
     }
+}
+
+/// A global with its linkage and its alignment in front.
+fn linked(alloc: Global, at: u32, words: &mut SplitWhitespace<'_>) -> GlobalVar {
+    let linkage = linkage(word(words));
+    let align = number(words);
+    let mut global = global(alloc, at, words);
+    global.linkage = linkage;
+    global.align = Some(align);
+    global
 }
 
 impl Desk {
     pub(crate) fn new(alloc: Global) -> Desk {
         Desk {
             module: empty_module(alloc),
+            line: 0,
             params: Params::new(alloc),
             extra: Operands::new(alloc),
             instrs: Instrs::new(alloc),
@@ -134,7 +147,7 @@ impl Desk {
             personality: !self.extra.is_empty(),
             extra: mem::replace(&mut self.extra, Operands::new(alloc)),
             token: Span { from: 0, to: 0 },
-            at: 0,
+            at: self.line,
             first_block: id(words),
             block_count: id(words),
         }
@@ -176,12 +189,14 @@ impl Desk {
         entry: &str,
         words: &mut SplitWhitespace<'_>,
     ) -> Result<bool, NoMemory> {
+        let at = self.line;
         match entry {
-            "do" => add_instr(alloc, &mut self.instrs, word(words), words)?,
+            "do" => add_instr(alloc, at, &mut self.instrs, words)?,
             "param" => self.add_param(words)?,
             "extra" => self.extra.push(operand(words))?,
             "func" => self.add_func(alloc, words)?,
-            "global" => self.module.globals.push(global(alloc, words))?,
+            "global" => self.module.globals.push(global(alloc, at, words))?,
+            "linked" => self.module.globals.push(linked(alloc, at, words))?,
             "block" => self.module.blocks.push(block(alloc, words))?,
             "seg" => {
                 let seg = self.seg(alloc, id(words));

@@ -54,6 +54,14 @@ fn memory(name: &str, words: &mut SplitWhitespace<'_>) -> Op {
     }
 }
 
+fn cast(op: CastOp, words: &mut SplitWhitespace<'_>) -> Op {
+    Op::Cast {
+        op,
+        flagged: false,
+        a: operand(words),
+    }
+}
+
 /// An instruction without lists.
 fn simple(name: &str, words: &mut SplitWhitespace<'_>) -> Op {
     match name {
@@ -69,11 +77,9 @@ fn simple(name: &str, words: &mut SplitWhitespace<'_>) -> Op {
             a: operand(words),
             b: operand(words),
         },
-        "ptrtoint" => Op::Cast {
-            op: CastOp::PtrToInt,
-            flagged: false,
-            a: operand(words),
-        },
+        "ptrtoint" => cast(CastOp::PtrToInt, words),
+        "trunc" => cast(CastOp::Trunc, words),
+        "zext" => cast(CastOp::ZExt, words),
         "select" => Op::Select {
             c: operand(words),
             a: operand(words),
@@ -123,13 +129,17 @@ fn cases(alloc: Global, words: &mut SplitWhitespace<'_>) -> Result<Cases, NoMemo
     Ok(list)
 }
 
-fn catches(alloc: Global, words: &mut SplitWhitespace<'_>) -> Result<Clauses, NoMemory> {
+fn clauses(
+    alloc: Global,
+    filter: bool,
+    words: &mut SplitWhitespace<'_>,
+) -> Result<Clauses, NoMemory> {
     let mut list = Clauses::new(alloc);
     for _ in 0..u64::MAX {
         let Some(val) = operand_if(words) else {
             break;
         };
-        list.push(Clause { filter: false, val })?;
+        list.push(Clause { filter, val })?;
     }
     Ok(list)
 }
@@ -166,8 +176,8 @@ fn invoke(alloc: Global, words: &mut SplitWhitespace<'_>) -> Result<Op, NoMemory
 }
 
 /// A landing pad that catches all.
-fn pad(alloc: Global, words: &mut SplitWhitespace<'_>) -> Result<Op, NoMemory> {
-    let clauses = catches(alloc, words)?;
+fn pad(alloc: Global, filter: bool, words: &mut SplitWhitespace<'_>) -> Result<Op, NoMemory> {
+    let clauses = clauses(alloc, filter, words)?;
     Ok(Op::LandingPad {
         catch_all: true,
         clauses,
@@ -183,7 +193,8 @@ fn op(alloc: Global, name: &str, words: &mut SplitWhitespace<'_>) -> Result<Op, 
         "switch" => switch(alloc, words),
         "call" => Ok(Op::Call(call(alloc, words)?)),
         "invoke" => invoke(alloc, words),
-        "pad" => pad(alloc, words),
+        "pad" => pad(alloc, false, words),
+        "filters" => pad(alloc, true, words),
         _ => Ok(simple(name, words)),
     }
 }
@@ -195,24 +206,27 @@ fn result(word: &str) -> Option<ValueId> {
     }
 }
 
-fn made(value: Option<ValueId>, ty: TypeId, op: Op) -> Instr {
+fn made(at: u32, value: Option<ValueId>, named: bool, ty: TypeId, op: Op) -> Instr {
     Instr {
         result: value,
-        named: value.is_some(),
+        named,
         ty,
         op,
-        span: Span { from: 0, to: 0 },
+        span: Span { from: at, to: at },
     }
 }
 
 /// Puts the instruction of a line at the end of a list.
 pub(crate) fn add_instr(
     alloc: Global,
+    at: u32,
     instrs: &mut Instrs,
-    name: &str,
     words: &mut SplitWhitespace<'_>,
 ) -> Result<(), NoMemory> {
-    let value = result(word(words));
+    let name = word(words);
+    let written = word(words);
+    let value = result(written);
     let ty = ty(words);
-    instrs.push(made(value, ty, op(alloc, name, words)?))
+    let op = op(alloc, name, words)?;
+    instrs.push(made(at, value, written != "-", ty, op))
 }

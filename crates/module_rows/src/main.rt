@@ -16,9 +16,12 @@
 //! - `do ret - 0` is an instruction of the segment that comes next: name, number of the result, type and the rest;
 //!   `seg 0` is the segment, with its block.
 //! - `value 1 4 at 1 0` and `value 0 4 param 0` are values: function, type and what makes them.
-//! - `global 5 zero 0 5` is a global variable, and `part func 0 4` a part of a constant.
+//! - `global 5 zero 0 5` is a global variable, `linked external 3 5` one with a linkage and an alignment, and
+//!   `part func 0 4` a part of a constant.
 //! - `put seg 2 1` puts the segment that comes next in the place of another; so do `put block` and `put value`, and
 //!   `put offsets` takes the offsets of types away.
+//! - An entry counts as written at the offset that is the number of its line behind `clear`; `use 1 3 70` is the value 1 of
+//!   type 3, written at 70. `verify` asks whether the module is verified.
 //! - `positions`, `position reach 0 1` and `position_count` ask for all positions, for the number of one and for how
 //!   many there are.
 #![tactic(auto)]
@@ -31,8 +34,10 @@ mod integers;
 mod line;
 mod numbered;
 mod operands;
+mod rules;
 mod types;
 mod uses_of;
+mod verdicts;
 mod words;
 
 use attr_ids::NoMemory;
@@ -55,6 +60,8 @@ fn ask(
         integers::ask(alloc, question, words, line)?
             || asks::ask(&desk.module, question, words, line)
             || uses_of::ask(alloc, &desk.module, question, words, line)?
+            || rules::ask(alloc, &desk.module, question, words, line)?
+            || verdicts::ask(alloc, &desk.module, question, line)?
             || numbered::ask(alloc, &desk.module, question, words, line)?
             || types::ask(&desk.module.types, question, words, line),
     )
@@ -67,9 +74,10 @@ fn add(
     entry: &str,
     words: &mut SplitWhitespace<'_>,
 ) -> Result<bool, NoMemory> {
+    desk.line = desk.line.saturating_add(1);
     match entry {
         "clear" => *desk = Desk::new(alloc),
-        "type" => types::add_type(alloc, &mut desk.module, words)?,
+        "type" => types::add_type(alloc, desk.line, &mut desk.module, words)?,
         _ => return desk.add(alloc, entry, words),
     }
     Ok(true)

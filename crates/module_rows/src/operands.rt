@@ -1,4 +1,5 @@
-//! Operands: a kind, a number and a type. Of a constant with parts the number is that of its first part.
+//! Operands: a kind, a number and a type. Of a constant with parts the number is that of its first part; a `use` is a value with
+//! the offset at which it is written behind its type.
 use crate::words::{number, ty, word};
 use attr_ids::{FuncId, GlobalId, ValueId};
 use ir_module::{Operand, Shape, Symbol, Written};
@@ -45,7 +46,7 @@ fn naming(kind: &str, n: u64) -> Operand {
 
 fn val(kind: &str, n: u64) -> Operand {
     match kind {
-        "%" => Operand::Value(ValueId(id(n))),
+        "%" | "use" => Operand::Value(ValueId(id(n))),
         "int" => Operand::Int {
             bits: n,
             fits: true,
@@ -57,6 +58,9 @@ fn val(kind: &str, n: u64) -> Operand {
         "truth" => Operand::Truth(n != 0),
         "zero" => Operand::Zero,
         "null" => Operand::Null,
+        "wrong" => Operand::WrongOffset {
+            rule: (n & 0xff) as u8,
+        },
         "undef" => Operand::Undef,
         _ => naming(kind, n),
     }
@@ -68,7 +72,7 @@ fn of_kind(kind: &str, words: &mut SplitWhitespace<'_>) -> Written {
     Written {
         val: val(kind, n),
         ty: ty(words),
-        at: 0,
+        at: if kind == "use" { id(number(words)) } else { 0 },
     }
 }
 

@@ -13,31 +13,32 @@ use std::str::SplitWhitespace;
 /// A table takes no more types than this.
 const LIMIT: usize = 1 << 20;
 
-fn add(alloc: Global, m: &mut Module, t: IrType) -> Result<(), NoMemory>
+fn add(alloc: Global, at: u32, m: &mut Module, t: IrType) -> Result<(), NoMemory>
     requires { IsWellFormed t }
 {
     if m.types.len() < LIMIT {
         m.types.add(alloc, t)?;
-        m.type_at.push(0)?;
+        m.type_at.push(at)?;
     }
     Ok(())
 }
 
-fn add_int(alloc: Global, m: &mut Module, width: u64) -> Result<(), NoMemory> {
+fn add_int(alloc: Global, at: u32, m: &mut Module, width: u64) -> Result<(), NoMemory> {
     if 1 <= width && width <= 64 {
-        add(alloc, m, IrType::Int { width: width as u8 })?;
+        add(alloc, at, m, IrType::Int { width: width as u8 })?;
     }
     Ok(())
 }
 
 fn add_array(
     alloc: Global,
+    at: u32,
     m: &mut Module,
     words: &mut SplitWhitespace<'_>,
 ) -> Result<(), NoMemory> {
     let count = number(words);
     let elem = ty(words);
-    add(alloc, m, IrType::Array { count, elem })
+    add(alloc, at, m, IrType::Array { count, elem })
 }
 
 /// Types by their numbers, to the end of the line.
@@ -51,28 +52,30 @@ fn fields(alloc: Global, words: &mut SplitWhitespace<'_>) -> Result<TypeList, No
 
 fn add_struct(
     alloc: Global,
+    at: u32,
     m: &mut Module,
     packed: bool,
     words: &mut SplitWhitespace<'_>,
 ) -> Result<(), NoMemory> {
     let fields = fields(alloc, words)?;
-    add(alloc, m, IrType::Struct { fields, packed })
+    add(alloc, at, m, IrType::Struct { fields, packed })
 }
 
 /// Adds the type of a line.
 pub(crate) fn add_type(
     alloc: Global,
+    at: u32,
     m: &mut Module,
     words: &mut SplitWhitespace<'_>,
 ) -> Result<(), NoMemory> {
     match word(words) {
-        "int" => add_int(alloc, m, number(words)),
-        "ptr" => add(alloc, m, IrType::Ptr),
-        "array" => add_array(alloc, m, words),
-        "struct" => add_struct(alloc, m, false, words),
-        "packed" => add_struct(alloc, m, true, words),
-        "opaque" => add(alloc, m, IrType::Opaque),
-        _ => add(alloc, m, IrType::Void),
+        "int" => add_int(alloc, at, m, number(words)),
+        "ptr" => add(alloc, at, m, IrType::Ptr),
+        "array" => add_array(alloc, at, m, words),
+        "struct" => add_struct(alloc, at, m, false, words),
+        "packed" => add_struct(alloc, at, m, true, words),
+        "opaque" => add(alloc, at, m, IrType::Opaque),
+        _ => add(alloc, at, m, IrType::Void),
     }
 }
 

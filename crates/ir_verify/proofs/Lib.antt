@@ -1,0 +1,5 @@
+pub mod Judged
+pub mod Covers
+pub mod Segments
+pub mod FirstUse
+pub mod Verdicts

@@ -1,0 +1,64 @@
+//! The question `verify`: whether the module is verified, or what is wrong with it.
+ghost use Rattle.ir_module.specs.WellFormed.{IsWellFormed};
+
+use crate::line::Line;
+use attr_ids::NoMemory;
+use ir_module::{Module, is_well_formed};
+use ir_paths::BlockList;
+use ir_verify::{Fault, verify};
+use std::alloc::Global;
+
+/// A rule by its number, the offset, and the blocks of a path.
+fn put_rule(line: &mut Line, rule: u8, at: u32, path: &BlockList) {
+    line.word("rule");
+    line.number(u64::from(rule));
+    line.word("at");
+    line.number(u64::from(at));
+    for block in path.as_slice() {
+        line.number(u64::from(block.0));
+    }
+}
+
+fn put(line: &mut Line, fault: Fault) -> Result<(), NoMemory> {
+    match fault {
+        Fault::Rule { rule, at, path } => put_rule(line, rule, at, &path),
+        Fault::Deep { count } => {
+            line.word("deep");
+            line.number(count);
+        }
+        Fault::Huge { count } => {
+            line.word("huge");
+            line.number(count);
+        }
+        Fault::NoMemory => return Err(NoMemory),
+    }
+    Ok(())
+}
+
+fn answer(alloc: Global, m: &Module, line: &mut Line) -> Result<(), NoMemory>
+    requires { IsWellFormed m.now }
+{
+    match verify(alloc, m) {
+        Ok(()) => line.word("verified"),
+        Err(fault) => put(line, fault)?,
+    }
+    Ok(())
+}
+
+/// Answers a question for the whole module; answers whether it is one.
+pub(crate) fn ask(
+    alloc: Global,
+    m: &Module,
+    question: &str,
+    line: &mut Line,
+) -> Result<bool, NoMemory> {
+    if question != "verify" {
+        return Ok(false);
+    }
+    if is_well_formed(m) {
+        answer(alloc, m, line)?;
+    } else {
+        line.word("not well formed");
+    }
+    Ok(true)
+}
