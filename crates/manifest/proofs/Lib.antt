@@ -1,0 +1,9 @@
+pub mod Exact
+pub mod Joining
+pub mod Parts
+pub mod Proper
+pub mod Reading
+pub mod Rising
+pub mod Rungs
+pub mod Texts
+pub mod Told

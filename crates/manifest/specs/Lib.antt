@@ -1,0 +1,11 @@
+pub mod Ready
+pub mod Attrs
+pub mod Spelling
+pub mod Added
+pub mod Function
+pub mod Call
+pub mod Return
+pub mod Parameter
+pub mod Argument
+pub mod Additions
+pub mod Places
