@@ -1,0 +1,24 @@
+use Rattle.std.proofs.Common.{arith, ◌≡◌, if◌then◌else◌, length, ap, subst, ◌∙◌}
+use Rattle.manifest.specs.Ready.{set_of}
+use Rattle.attr_list.specs.Summed.{count_of, is_dead}
+use Rattle.attr_list.proofs.Counting.{none_yet, one_more, few, one_at_most}
+use Rattle.attr_list.proofs.summing.count_dead.Goals as goal
+
+pub loop-f-init : goal.loop-f-init
+loop-f-init c = none_yet (is_dead c.args.held.now.m.now (set_of c.args.held.now))
+
+pub overflow_add-count : goal.overflow_add-count
+overflow_add-count c =
+    let less = few (is_dead c.args.held.now.m.now (set_of c.args.held.now)) c.loop-f.f in
+    let one = one_at_most c.is_dead.result in
+    omega (arith, less, one, c.loop-f.invariant, c.one_if-count.ensures, c.loop-f-test.true, c.len-f-end.ensures, c.requires.formed.few.funcs)
+
+pub loop-f-preserved : goal.loop-f-preserved
+loop-f-preserved c =
+    one_more (is_dead c.args.held.now.m.now (set_of c.args.held.now)) c.loop-f.f c.loop-f.count c.one_if-count.result c.loop-f.invariant
+    (c.one_if-count.ensures ∙ ap (λ b. if b then 1 else 0) c.is_dead.ensures)
+
+pub returns : goal.returns
+returns c =
+    let end : c.loop-f.f ≡ length c.args.held.now.m.now.funcs = omega (arith, c.loop-f-test.false, c.loop-f.auto.f-end, c.len-f-end.ensures) in
+    subst (λ n. c.loop-f.count ≡ count_of (is_dead c.args.held.now.m.now (set_of c.args.held.now)) n) end c.loop-f.invariant
