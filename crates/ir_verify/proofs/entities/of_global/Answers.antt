@@ -11,8 +11,10 @@ returns c =
     let at = c.args.global.now.at in
     let demands : Rule → Type 0 = OfGlobal c.args.m.now c.args.numbers.now c.args.global.now in
     all_rules global_rules at demands _ (global_covers c.args.m.now c.args.numbers.now c.args.global.now)
-    (rule_step (rule.V2 ∷ rule.V3 ∷ rule.V7 ∷ rule.V11 ∷ rule.V16 ∷ rule.V17 ∷ []) rule.V1 at demands _ _ _ _ c.is_scalar_init.ensures c.unless-v1.ensures c.first_of-7.ensures
-    (rule_step (rule.V3 ∷ rule.V7 ∷ rule.V11 ∷ rule.V16 ∷ rule.V17 ∷ []) rule.V2 at demands _ _ _ _ c.is_sized_global.ensures c.unless-v2.ensures c.first_of-6.ensures
+    (rule_step (rule.V2 ∷ rule.V3 ∷ rule.V7 ∷ rule.V11 ∷ rule.V16 ∷ rule.V17 ∷ []) rule.V1 at demands _ _ _ _
+    c.is_scalar_init.ensures c.unless-v1.ensures c.first_of-7.ensures
+    (rule_step (rule.V3 ∷ rule.V7 ∷ rule.V11 ∷ rule.V16 ∷ rule.V17 ∷ []) rule.V2 at demands _ _ _ _
+    c.is_sized_global.ensures c.unless-v2.ensures c.first_of-6.ensures
     (rule_step (rule.V7 ∷ rule.V11 ∷ rule.V16 ∷ rule.V17 ∷ []) rule.V3 at demands _ _ _ _ c.has_init.ensures c.unless-v3.ensures c.first_of-5.ensures
     (rule_step (rule.V11 ∷ rule.V16 ∷ rule.V17 ∷ []) rule.V7 at demands _ _ _ _ c.init_keeps.ensures c.unless-v7.ensures c.first_of-4.ensures
     (rule_step (rule.V16 ∷ rule.V17 ∷ []) rule.V11 at demands _ _ _ _ c.init_keeps-2.ensures c.unless-v11.ensures c.first_of-3.ensures

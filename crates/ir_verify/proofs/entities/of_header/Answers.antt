@@ -11,9 +11,12 @@ returns c =
     let at = c.args.func.now.at in
     let demands : Rule → Type 0 = OfHeader c.args.m.now c.args.numbers.now c.args.f.0 c.args.func.now in
     all_rules header_rules at demands _ (header_covers c.args.m.now c.args.numbers.now c.args.f.0 c.args.func.now)
-    (rule_step (rule.V2 ∷ rule.V3 ∷ rule.V7 ∷ rule.V11 ∷ rule.V16 ∷ rule.V17 ∷ rule.V21 ∷ []) rule.V1 at demands _ _ _ _ c.has_scalar_header.ensures c.unless-v1.ensures c.first_of-7.ensures
-    (rule_step (rule.V3 ∷ rule.V7 ∷ rule.V11 ∷ rule.V16 ∷ rule.V17 ∷ rule.V21 ∷ []) rule.V2 at demands _ _ _ _ c.header_keeps.ensures c.unless-v2.ensures c.first_of-6.ensures
-    (rule_step (rule.V7 ∷ rule.V11 ∷ rule.V16 ∷ rule.V17 ∷ rule.V21 ∷ []) rule.V3 at demands _ _ _ _ c.has_linkage.ensures c.unless-v3.ensures c.first_of-5.ensures
+    (rule_step (rule.V2 ∷ rule.V3 ∷ rule.V7 ∷ rule.V11 ∷ rule.V16 ∷ rule.V17 ∷ rule.V21 ∷ []) rule.V1 at demands _ _ _ _
+    c.has_scalar_header.ensures c.unless-v1.ensures c.first_of-7.ensures
+    (rule_step (rule.V3 ∷ rule.V7 ∷ rule.V11 ∷ rule.V16 ∷ rule.V17 ∷ rule.V21 ∷ []) rule.V2 at demands _ _ _ _
+    c.header_keeps.ensures c.unless-v2.ensures c.first_of-6.ensures
+    (rule_step (rule.V7 ∷ rule.V11 ∷ rule.V16 ∷ rule.V17 ∷ rule.V21 ∷ []) rule.V3 at demands _ _ _ _
+    c.has_linkage.ensures c.unless-v3.ensures c.first_of-5.ensures
     (rule_step (rule.V11 ∷ rule.V16 ∷ rule.V17 ∷ rule.V21 ∷ []) rule.V7 at demands _ _ _ _ c.header_keeps-2.ensures c.unless-v7.ensures c.first_of-4.ensures
     (rule_step (rule.V16 ∷ rule.V17 ∷ rule.V21 ∷ []) rule.V11 at demands _ _ _ _ c.header_keeps-3.ensures c.unless-v11.ensures c.first_of-behind.ensures
     (rule_step (rule.V17 ∷ rule.V21 ∷ []) rule.V16 at demands _ _ _ _ c.has_good_header.ensures c.unless-v16.ensures c.first_of-3.ensures

@@ -45,7 +45,8 @@ returns c = λ func block seg there home.
     let demands : Rule → Type 0 = OfInstr c.args.m.now c.args.numbers.now (placed my_func my_block c.args.s.0 my_seg c.args.i c.args.instr.now) in
     let my_home : IsHomeOf c.args.m.now my_seg my_block my_func = record { at_block = c.block-block.ensures; at_func = c.func-func.ensures } in
     let mine : JudgedIn flow_rules at demands c.first_of-5.result =
-    (rule_step (rule.V5 ∷ rule.V6 ∷ rule.V12 ∷ rule.V13 ∷ rule.V20 ∷ []) rule.V4 at demands _ _ _ _ c.leaves_entry_free.ensures c.unless-v4.ensures c.first_of-5.ensures
+    (rule_step (rule.V5 ∷ rule.V6 ∷ rule.V12 ∷ rule.V13 ∷ rule.V20 ∷ []) rule.V4 at demands _ _ _ _
+    c.leaves_entry_free.ensures c.unless-v4.ensures c.first_of-5.ensures
     (rule_step (rule.V6 ∷ rule.V12 ∷ rule.V13 ∷ rule.V20 ∷ []) rule.V5 at demands _ _ _ _ c.phis_come_first.ensures c.unless-v5.ensures c.first_of-4.ensures
     (rule_step (rule.V12 ∷ rule.V13 ∷ rule.V20 ∷ []) rule.V6 at demands _ _ _ _ c.in_ok-has_arms.ensures c.unless-v6.ensures c.first_of-3.ensures
     (rule_step (rule.V13 ∷ rule.V20 ∷ []) rule.V12 at demands _ _ _ _ c.in_ok-branches.ensures c.unless-v12.ensures c.first_of-behind.ensures
