@@ -7,3 +7,4 @@ pub mod Lists
 pub mod Runs
 pub mod Walking
 pub mod Judged
+pub mod There

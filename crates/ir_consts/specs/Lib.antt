@@ -1,4 +1,5 @@
 pub mod Kinds
+pub mod There
 pub mod Source
 pub mod Reading
 pub mod Decide

@@ -13,4 +13,8 @@ mod offsets;
 mod source;
 
 pub use consts::{Laid, constant, tconst};
+pub use laws::{
+    each_type_is_there, offsets_of_a_chain_add_up, parts_stand_before,
+    the_first_broken_rule_is_found,
+};
 pub use source::Source;
