@@ -1,0 +1,10 @@
+use Rattle.ir_instrs.specs.Reading.{reading}
+use Rattle.ir_instrs.specs.Operands.{tvalue_uses}
+use Rattle.ir_instrs.proofs.Taking.{takes_both}
+use Rattle.ir_instrs.proofs.ops.store.Goals as goal
+
+pub returns-clause-takes : goal.returns-clause-takes
+returns-clause-takes c =
+    let r = reading c.args.src.now in
+    takes_both r (tvalue_uses r c.args.x.now.value) (tvalue_uses r c.args.x.now.to) c.args.notes.now c.tvalue.new.notes c.tvalue-2.new.notes
+    c.in_ok-val.ensures.takes c.in_ok-ptr.ensures.takes

@@ -1,0 +1,10 @@
+use Rattle.std.proofs.Common.{◌≡◌, length}
+use Rattle.ir_ops.specs.declared.conversion.CastOp.TheVariants.{PtrToInt}
+use Rattle.ir_instrs.specs.Words.{found, entries}
+use Rattle.ir_instrs.proofs.words.cast_found.Given as goal
+
+abbrev pub invariant-loop-rest : goal.invariant-loop-rest
+invariant-loop-rest l = found PtrToInt (entries l.rest) l.word ≡ found PtrToInt (entries l.rows) l.word
+
+abbrev pub decreases-loop-rest : goal.decreases-loop-rest
+decreases-loop-rest l = length l.rest
