@@ -1,0 +1,4 @@
+pub mod Filling
+pub mod Noting
+pub mod Ordered
+pub mod Numbered
