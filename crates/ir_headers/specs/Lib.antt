@@ -1,0 +1,5 @@
+pub mod Leaves
+pub mod Headers
+pub mod Stand
+pub mod Globals
+pub mod Values
