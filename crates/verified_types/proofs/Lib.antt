@@ -1,0 +1,4 @@
+pub mod Alike
+pub mod Operands
+pub mod Kept
+pub mod Typed
