@@ -53,7 +53,7 @@ module _ (types : List IrType) (parts : List Written) (a b : List ℕ) (leads : 
   struct is_packed first count (Some (Struct fields packed)) h = (h.0, h.1, λ i w l at t field. leads w.ty t (h.2 i w l at t field))
   struct is_packed first count (Some Opaque) h = absurd h
 
-  kind : (ty : Option IrType) (o : Operand) → FitsKind types a parts ty o → FitsKind types b parts ty o
+  pub kind : (ty : Option IrType) (o : Operand) → FitsKind types a parts ty o → FitsKind types b parts ty o
   kind ty (operand.Parts shape.Array first count) h = array first count ty h
   kind ty (operand.Parts shape.Struct first count) h = struct false first count ty h
   kind ty (operand.Parts shape.Packed first count) h = struct true first count ty h
@@ -71,7 +71,7 @@ module _ (types : List IrType) (parts : List Written) (a b : List ℕ) (leads : 
   kind ty (operand.Offset base bytes inbounds wrap) h = h
   kind ty (operand.WrongOffset r) h = h
 
-  demands : (r : ConstantRule) (w : Written) → Demands types a parts r w → Demands types b parts r w
+  pub demands : (r : ConstantRule) (w : Written) → Demands types a parts r w → Demands types b parts r w
   demands rule.ScalarParts w h = h
   demands rule.FreeParts w h = h
   demands rule.Sized w h = h

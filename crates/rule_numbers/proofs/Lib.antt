@@ -1,0 +1,4 @@
+pub mod Layouts
+pub mod Operands
+pub mod Instrs
+pub mod Modules
