@@ -235,3 +235,11 @@ module _ (m : Module) (ps : Numbered) (is : IsNumbering m ps) (s : System) (are 
       let less = no_longer (pairs_below (length ps.list)) pairs pairs_once (λ i x e. named.all x.0 x.1 (pairs_named i x e)) in
       let more = no_longer pairs (pairs_below (length ps.list)) named.once (λ i x e. named_pairs both_listed x.0 x.1 (named.each i x e)) in
       omega (arith, long, less, more)
+
+  -- there is a list of all pairs
+  pub some_named : (pairs : List (Pos × Pos)) × AreNamed m pairs × (length pairs ≡ inputs_below s (length ps.list))
+  some_named = (
+    pairs_below (length ps.list),
+    record { each = pairs_named; all = named_pairs both_listed; once = pairs_once },
+    pairs-length (length ps.list),
+  )

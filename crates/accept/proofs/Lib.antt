@@ -1,0 +1,4 @@
+pub mod Counted
+pub mod Sized
+pub mod Edges
+pub mod Told

@@ -1,0 +1,6 @@
+pub mod Counting
+pub mod Limits
+pub mod Accepted
+pub mod Causes
+pub mod Following
+pub mod Ready

@@ -1,0 +1,4 @@
+pub mod Putting
+pub mod Adding
+pub mod Naming
+pub mod Whole

@@ -1,0 +1,14 @@
+pub mod Runs
+pub mod Names
+pub mod Types
+pub mod Constants
+pub mod Uses
+pub mod Productions
+pub mod Blocks
+pub mod Segments
+pub mod Counts
+pub mod Values
+pub mod Grounds
+pub mod Members
+pub mod Whole
+pub mod Resolved

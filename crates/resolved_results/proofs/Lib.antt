@@ -1,0 +1,4 @@
+pub mod Bits
+pub mod Consts
+pub mod Instrs
+pub mod Whole
