@@ -1,0 +1,6 @@
+mod Arguments
+pub mod OneCommand
+mod Options
+mod Refusals
+mod Swaps
+mod SwapFaults
