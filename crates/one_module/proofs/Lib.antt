@@ -1,0 +1,3 @@
+pub mod Contexts
+pub mod Faults
+pub mod Modules
