@@ -1,20 +1,19 @@
 -- What the rules of control ask of single instructions, told by tests.
-use Rattle.std.proofs.Common.{arith, ◌≡◌, ◌==◌, ◌&&◌, ◌⊎◌, ◌↔◌, not, ℕ, Bool, true, false, slice_get, Option, None, Some, refl, sym, ap, subst, ◌∙◌, inl, inr}
+use Rattle.std.proofs.Common.{◌≡◌, ◌==◌, ◌⊎◌, ◌↔◌, not, ℕ, Bool, true, false, slice_get, Option, None, Some, refl, sym, ap, subst, ◌∙◌, inl, inr}
 use Rattle.std.proofs.lemmas.Bool.{and_parts}
 use Rattle.attr_ids.specs.declared.ids.FuncId.{FuncId}
 use Rattle.ir_module.specs.declared.module.Func.{Func}
 use Rattle.facts.specs.Bodies.{is_body}
-use Rattle.std.specs.Option.{is_some, option_and_then}
-use Rattle.ir_module.specs.declared.op.Call.{Call}
+use Rattle.std.specs.Option.{option_and_then}
 use Rattle.ir_module.specs.declared.op.Op.{Op}
 use Rattle.ir_module.specs.declared.op.Op.TheVariants as op
 use Rattle.ir_module.specs.declared.module.Module.{Module}
-use Rattle.ir_module.specs.Calls.{call_of, is_call, direct_callee, callee_of, is_inner, callee_in, inner_callee, has_blocks, is_exact_in, is_replaceable}
+use Rattle.ir_module.specs.Calls.{is_call, direct_callee, callee_of, is_inner, callee_in, inner_callee, has_blocks, is_exact_in, is_replaceable}
 use Rattle.ir_module.specs.Edges.{catches_all}
 use Rattle.facts.specs.Kinds.{FunctionFact, NoUnwind, NoReturn, NoFree}
 use Rattle.facts.specs.Facts.{Fact}
 use Rattle.facts.specs.Promises.{call_has, CallSpeaks}
-use Rattle.facts.specs.Functions.{KeepsNounwind, Keeps, Concerns, KeepsSpeaks}
+use Rattle.facts.specs.Functions.{KeepsNounwind, Keeps, Concerns}
 use Rattle.aa_control.specs.Asked.{is_caught, is_resume, is_ret}
 
 clash : {A : Type 0} → true ≡ false → A

@@ -1,5 +1,5 @@
 -- What is met in for one fact of one instruction.
-use Rattle.std.proofs.Common.{arith, ◌≡◌, ◌<◌, ◌^◌, ◌⊎◌, ◌↔◌, if◌then◌else◌, ℕ, Bool, true, false, length, slice_get, None, Some, refl, sym, ap, subst, ◌∙◌}
+use Rattle.std.proofs.Common.{arith, ◌≡◌, ◌^◌, ◌⊎◌, ◌↔◌, if◌then◌else◌, ℕ, Bool, true, false, length, None, Some, refl, sym, ap, subst, ◌∙◌}
 use Rattle.std.proofs.Common.{inl, inr}
 use Rattle.std.specs.Int.{bit_at}
 use Rattle.std.proofs.lemmas.Bool.{cases_eq, both_ways}
@@ -8,7 +8,6 @@ use Rattle.lattice_words.specs.declared.segment.TheConstants.{DEAD}
 use Rattle.ir_module.specs.declared.op.Op.{Op}
 use Rattle.ir_module.specs.declared.module.Module.{Module}
 use Rattle.facts.specs.declared.pos.Pos.{Pos}
-use Rattle.facts.specs.declared.pos.Pos.TheVariants as pos
 use Rattle.ir_module.specs.Calls.{is_call, inner_callee}
 use Rattle.facts.specs.Kinds.{FunctionFact, NoUnwind, function_bit}
 use Rattle.facts.specs.Facts.{Fact, fact, segment, function, effect, dead, of_function}
@@ -22,7 +21,7 @@ use Rattle.rule_terms.specs.System.{System}
 use Rattle.positions.specs.Numbering.{Numbered}
 use Rattle.rule_says.specs.Reading.{IsNumbering}
 use Rattle.rule_says.specs.Saying.{IsSet, Has, Says, IsWord, IsUnless}
-use Rattle.rule_says.specs.Meeting.{Meets, HasSome, IsMet}
+use Rattle.rule_says.specs.Meeting.{Meets, IsMet}
 use Rattle.rule_says.proofs.Terms.{says_bits, says_or, says_iff, says_word, says_unless}
 use Rattle.rule_says.proofs.Mets.{meets_none, meets_iff, meets_term, AskAt, SpeakAt}
 use Rattle.aa_control.specs.Asked.{AsksKind, SpeaksKind, AsksCall, AsksKeeps, is_caught}

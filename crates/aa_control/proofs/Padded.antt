@@ -1,5 +1,5 @@
 -- The table of landing pads tells which unwind edges are caught.
-use Rattle.std.proofs.Common.{◌≡◌, ℕ, Bool, false, List, map, slice_get, Option, None, Some, refl, sym, ap, ◌∙◌}
+use Rattle.std.proofs.Common.{◌≡◌, ℕ, Bool, false, List, slice_get, Option, None, Some, refl, ap, ◌∙◌}
 use Rattle.std.specs.Option.{option_map, option_map_or}
 use Rattle.std.proofs.lemmas.Option.{slice_get-map}
 use Rattle.ir_module.specs.declared.module.Seg.{Seg}

@@ -1,5 +1,5 @@
 -- The parts of the rules of control, one after the other.
-use Rattle.std.proofs.Common.{◌≡◌, ◌⊎◌, ◌↔◌, ℕ, Bool, true, length, slice_get, Some, sym, ap, subst, ◌∙◌}
+use Rattle.std.proofs.Common.{◌≡◌, ◌⊎◌, ℕ, Bool, true, length, slice_get, Some, sym, ap, subst, ◌∙◌}
 use Rattle.lattice_words.specs.declared.function.TheConstants.{ALL_CONTROL}
 use Rattle.ir_module.specs.declared.op.Instr.{Instr}
 use Rattle.ir_module.specs.declared.module.Seg.{Seg}
@@ -20,6 +20,7 @@ use Rattle.rule_says.proofs.Terms.{says_word}
 use Rattle.rule_says.proofs.Mets.{meets_then, meets_iff, meets_within, meets_term, AskAt, SpeakAt}
 use Rattle.aa_control.specs.Control.{AsksControl, SpeaksControl}
 use Rattle.aa_control.specs.Asked.{AsksKind, SpeaksKind, AsksInstr, SpeaksInstr, AsksEffects, SpeaksEffects, AsksBody, SpeaksBody, AsksBodies, SpeaksBodies}
+use Rattle.aa_control.specs.Coming.{AsksDeads, SpeaksDeads}
 use Rattle.aa_control.proofs.Whole.{asks_down, asks_up, speaks_down, speaks_up}
 
 module _ (m : Module) (ps : Numbered) where
@@ -62,13 +63,15 @@ module _ (m : Module) (ps : Numbered) where
             let same : p ≡ function f = w.2 ∙ ap function (only w.0 w.1) in
             (same, subst (λ q. HasSome m q ALL_CONTROL) same w.3, (w.4, w.5))
 
-    -- effects, and then bodies
-    pub all_met : (a b c : System) → Meets m ps a b (AsksEffects m) (SpeaksEffects m) → Meets m ps b c (AsksBodies m) (SpeaksBodies m) →
-        Meets m ps a c (AsksControl m) (SpeaksControl m)
-    all_met a b c effects bodies =
-        meets_within m ps is a c (λ held p bit. AsksEffects m held p bit ×
-        AsksBodies m held p bit) (AsksControl m) (λ p y. SpeaksEffects m p y ⊎ SpeaksBodies m p y) (SpeaksControl m)
-        (meets_then m ps a b c (AsksEffects m) (AsksBodies m) (SpeaksEffects m) (SpeaksBodies m) effects bodies)
+    -- effects, bodies, and then segments
+    pub all_met : (a b c d : System) → Meets m ps a b (AsksEffects m) (SpeaksEffects m) → Meets m ps b c (AsksBodies m) (SpeaksBodies m) →
+        Meets m ps c d (AsksDeads m) (SpeaksDeads m) → Meets m ps a d (AsksControl m) (SpeaksControl m)
+    all_met a b c d effects bodies deads =
+        meets_within m ps is a d (λ held p bit. AsksEffects m held p bit × (AsksBodies m held p bit × AsksDeads m held p bit)) (AsksControl m)
+        (λ p y. SpeaksEffects m p y ⊎ (SpeaksBodies m p y ⊎ SpeaksDeads m p y)) (SpeaksControl m)
+        (meets_then m ps a b d (AsksEffects m) (λ held p bit. AsksBodies m held p bit × AsksDeads m held p bit) (SpeaksEffects m)
+        (λ p y. SpeaksBodies m p y ⊎ SpeaksDeads m p y) effects
+        (meets_then m ps b c d (AsksBodies m) (AsksDeads m) (SpeaksBodies m) (SpeaksDeads m) bodies deads))
         (λ held p bit bits. (asks_down m held p bit, asks_up m held p bit))
         (λ p q bit has. (speaks_down m p q bit has, speaks_up m p (fact q bit)))
 

@@ -1,7 +1,6 @@
 -- What is asked of the effects of segments and of bodies together is what the rules of control ask.
-use Rattle.std.proofs.Common.{arith, ◌≡◌, ◌<◌, ◌≤◌, ◌&&◌, ◌⊎◌, ◌↔◌, nat_le, nat_lt, ℕ, zero, suc, Bool, true, false, MatchOption, List, length, slice_get}
-use Rattle.std.proofs.Common.{Option, None, Some, refl, sym, ap, subst, ◌∙◌, inl, inr}
-use Rattle.std.specs.Int.{bit_at}
+use Rattle.std.proofs.Common.{arith, ◌≡◌, ◌≤◌, ◌&&◌, ◌⊎◌, nat_le, ℕ, zero, suc, Bool, true, false, MatchOption, slice_get}
+use Rattle.std.proofs.Common.{Some, refl, sym, ap, subst, ◌∙◌, inl, inr}
 use Rattle.std.proofs.lemmas.Bool.{and_parts, and_from, leb-true, le-leb}
 use Rattle.std.proofs.lemmas.Nat.Bits.{bit_at_above}
 use Rattle.lattice_words.specs.declared.function.TheConstants.{ALL_CONTROL, NOFREE, NO_WRITE_OF_INACCESSIBLEMEM}
@@ -18,13 +17,14 @@ use Rattle.facts.specs.Facts.{Fact, fact, function, effect, dead}
 use Rattle.facts.specs.Bodies.{is_body}
 use Rattle.facts.specs.Masks.{is_built, has_bit_of, is_bit}
 use Rattle.facts.specs.Functions.{Keeps, SegmentKeeps, SegmentSpeaks, EffectsSpeak}
-use Rattle.facts.specs.Names.{Speaks}
-use Rattle.facts.specs.Justified.{Rule, EachEffect}
-use Rattle.rule_says.specs.Saying.{IsSet, Has}
-use Rattle.rule_says.specs.Meeting.{HasSome}
+use Rattle.facts.specs.Justified.{Rule}
+use Rattle.rule_says.specs.Saying.{IsSet}
 use Rattle.aa_control.specs.Control.{is_control, AsksControl, SpeaksControl}
-use Rattle.aa_control.specs.Asked.{AsksKind, SpeaksKind, AsksInstr, SpeaksInstr, AsksSeg, AsksEffects, SpeaksEffects, AsksBody, SpeaksBody, AsksBodies}
+use Rattle.aa_control.specs.Asked.{AsksKind, SpeaksKind, AsksInstr, SpeaksInstr, AsksEffects, SpeaksEffects, AsksBodies}
 use Rattle.aa_control.specs.Asked.{SpeaksBodies}
+use Rattle.aa_control.specs.Coming.{AsksDeads, SpeaksDeads}
+use Rattle.aa_control.proofs.Died.{dead_bit}
+use Rattle.aa_control.proofs.Comes.{dead_down, dead_up, deads_down, deads_up}
 
 crash : {A : Type 0} → false ≡ true → A
 crash e = absurd (cc)
@@ -72,9 +72,9 @@ module _ (m : Module) where
         high Read Inaccessible l e = omega (arith, l, e)
         high Write Inaccessible l e = omega (arith, l, e)
 
-    pub asks_down : (p : Pos) (bit : ℕ) → AsksEffects m held p bit × AsksBodies m held p bit → AsksControl m held p bit
-    asks_down (pos.Segment k) bit w control has = crash has
-    asks_down (pos.Function f) bit w low has = λ k within. w.1 k within.seg within.at_seg f.0 within refl (low_set bit low) has
+    pub asks_down : (p : Pos) (bit : ℕ) → AsksEffects m held p bit × (AsksBodies m held p bit × AsksDeads m held p bit) → AsksControl m held p bit
+    asks_down (pos.Segment k) bit w control has = dead_down m held k.0 bit w.1.1 has
+    asks_down (pos.Function f) bit w low has = λ k within. w.1.0 k within.seg within.at_seg f.0 within refl (low_set bit low) has
     asks_down (pos.Effect k) bit w low has = keeps_all k.0 bit (λ kind same low at instr there live.
         let here = stands m (spot k.0 at) instr there in
         asked kind k.0 bit instr same low (w.0 k.0 here.seg here.at_seg at instr here.at_place) has live) low
@@ -94,15 +94,18 @@ module _ (m : Module) where
         let keeps : SegmentKeeps m held k kind = subst (λ o. MatchOption o ⊥ (SegmentKeeps m held k)) says rule in
         keeps at i there live
 
-    pub asks_up : (p : Pos) (bit : ℕ) → AsksControl m held p bit → AsksEffects m held p bit × AsksBodies m held p bit
+    pub asks_up : (p : Pos) (bit : ℕ) → AsksControl m held p bit → AsksEffects m held p bit × (AsksBodies m held p bit × AsksDeads m held p bit)
     asks_up p bit h = (
       λ k seg at_seg at i at_place.
           let there = at_spot m (spot k at) seg i at_seg at_place in (
             asked_kind p bit h NoUnwind refl refl k at i there,
             (asked_kind p bit h NoReturn refl refl k at i there, asked_kind p bit h NoFree refl refl k at i there),
           ),
-      λ k seg at_seg f within here set has.
-          subst (λ q. AsksControl m held q bit) here h (set_low bit set) (subst (λ q. is_bit m q bit ≡ true) here has) k within,
+      (
+        λ k seg at_seg f within here set has.
+            subst (λ q. AsksControl m held q bit) here h (set_low bit set) (subst (λ q. is_bit m q bit ≡ true) here has) k within,
+        dead_up m held p bit h,
+      ),
     )
 
   -- ---- what is spoken of
@@ -119,15 +122,16 @@ module _ (m : Module) where
         subst (λ o. MatchOption o ⊥ (λ kind. SegmentSpeaks m k kind y)) (sym says) (at, i, at_spot m (spot k at) seg i at_seg at_place, w.2, w.3),
       )
 
-  pub speaks_down : (p q : Pos) (bit : ℕ) → is_bit m q bit ≡ true → SpeaksEffects m p (fact q bit) ⊎ SpeaksBodies m p (fact q bit) →
-      SpeaksControl m p (fact q bit)
+  pub speaks_down : (p q : Pos) (bit : ℕ) → is_bit m q bit ≡ true →
+      SpeaksEffects m p (fact q bit) ⊎ (SpeaksBodies m p (fact q bit) ⊎ SpeaksDeads m p (fact q bit)) → SpeaksControl m p (fact q bit)
   speaks_down p q bit has (inl w) = by w.3.3
     where
       by : SpeaksInstr m w.0 w.3.1 p (fact q bit) → SpeaksControl m p (fact q bit)
       by (inl h) = spoken_kind w.0 w.3.0 w.1 w.3.1 p (fact q bit) w.2 w.3.2 NoUnwind refl refl h
       by (inr (inl h)) = spoken_kind w.0 w.3.0 w.1 w.3.1 p (fact q bit) w.2 w.3.2 NoReturn refl refl h
       by (inr (inr h)) = spoken_kind w.0 w.3.0 w.1 w.3.1 p (fact q bit) w.2 w.3.2 NoFree refl refl h
-  speaks_down p q bit has (inr w) =
+  speaks_down p q bit has (inr (inr w)) = deads_down m p (fact q bit) w
+  speaks_down p q bit has (inr (inl w)) =
       -- segment w.0 of body f
       let f = w.3.0 in
       let within = w.3.1 in
@@ -153,9 +157,9 @@ module _ (m : Module) where
       effects_speak (suc (suc zero)) low v = (v.0, v.1, ap (λ r. fact r 2) v.2)
       effects_speak (suc (suc (suc n))) low v = absurd (let l = leb-true (suc (suc (suc n))) 2 low in omega (arith, l))
 
-  pub speaks_up : (p : Pos) (y : Fact) → SpeaksControl m p y → SpeaksEffects m p y ⊎ SpeaksBodies m p y
-  speaks_up (pos.Segment k) y w = crash w.2
-  speaks_up (pos.Function f) y w = inr (body w.0 w.1 w.2 w.3)
+  pub speaks_up : (p : Pos) (y : Fact) → SpeaksControl m p y → SpeaksEffects m p y ⊎ (SpeaksBodies m p y ⊎ SpeaksDeads m p y)
+  speaks_up (pos.Segment k) y w = inr (inr (deads_up m k.0 y (subst (λ n. is_bit m (pos.Segment k) n ≡ true) (dead_bit m k.0 w.0 w.2) w.2) w.3))
+  speaks_up (pos.Function f) y w = inr (inl (body w.0 w.1 w.2 w.3))
     where
       seen : (kind : FunctionFact) (b : ℕ) → function_bit kind ≡ b → nat_le b NOFREE ≡ true → is_bit m (pos.Function f) b ≡ true → EffectsSpeak m f.0 kind y →
           SpeaksBodies m (pos.Function f) y

@@ -11,7 +11,7 @@ use Rattle.ir_module.specs.Places.{IsSegIn}
 use Rattle.ir_module.specs.Edges.{is_catch_all, catches_all}
 use Rattle.facts.specs.declared.pos.Pos.{Pos}
 use Rattle.facts.specs.Kinds.{FunctionFact, NoUnwind, NoReturn, NoFree, function_bit}
-use Rattle.facts.specs.Facts.{Fact, fact, function, effect, dead}
+use Rattle.facts.specs.Facts.{Fact, function, effect, dead}
 use Rattle.facts.specs.Masks.{is_bit}
 use Rattle.facts.specs.Promises.{call_has}
 use Rattle.facts.specs.Functions.{Keeps, Concerns, KeepsSpeaks}

@@ -8,6 +8,7 @@ ghost use Rattle.aa_control.specs.Control.{AsksControl, SpeaksControl};
 
 use crate::bodies::bodies;
 use crate::effects::effects;
+use crate::segments::deads;
 use attr_ids::NoMemory;
 use ir_module::Module;
 use ir_uses::Uses;
@@ -19,15 +20,17 @@ use std::alloc::Global;
 pub fn terms(
     alloc: Global,
     m: &Module,
-    _u: &Uses,
+    u: &Uses,
     p: &Positions,
     s: &mut System,
 ) -> Result<(), NoMemory>
     requires formed { IsWellFormed m.now }
+    requires uses { AreUsesOf m.now u.now }
     requires numbering { IsNumbering m.now p.now }
     requires long { length s.old.masks ≡ length p.now.list }
     ensures { OnOk result (Meets m.now p.now s.old s.new (AsksControl m.now) (SpeaksControl m.now)) }
 {
     effects(alloc, m, p, s)?;
-    bodies(alloc, m, p, s)
+    bodies(alloc, m, p, s)?;
+    deads(alloc, m, u, p, s)
 }

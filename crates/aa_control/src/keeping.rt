@@ -32,7 +32,7 @@ fn one(bit: u32) -> u64
 }
 
 /// A word of one bit, or of none.
-fn one_if(test: bool, bit: u32) -> u64
+pub(crate) fn one_if(test: bool, bit: u32) -> u64
     requires { bit < 9 }
     ensures { result ≡ (if test then 2 ^ bit else 0) }
 {
@@ -40,7 +40,7 @@ fn one_if(test: bool, bit: u32) -> u64
 }
 
 /// That a call has the fact of this bit: an inner one by its callee's word, an outer one by what it promises.
-fn of_call(m: &Module, ps: &Positions, op: &Op, bit: u32, promised: bool) -> NewTerm
+pub(crate) fn of_call(m: &Module, ps: &Positions, op: &Op, bit: u32, promised: bool) -> NewTerm
     requires numbering { IsNumbering m.now ps.now }
     requires bit { bit < 9 }
     ensures { (kind : FunctionFact) → function_bit kind ≡ bit → promises_fact m.now kind op.now ≡ promised →
@@ -93,7 +93,7 @@ fn keep(
     meet(alloc, ps, s, Pos::Effect(k), one(bit), term)
 }
 
-fn is_call(op: &Op) -> bool
+pub(crate) fn is_call(op: &Op) -> bool
     ensures { result ≡ calls.is_call op.now }
 {
     op.call().is_some()

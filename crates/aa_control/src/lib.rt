@@ -4,9 +4,12 @@
 #![tactic(auto)]
 
 mod bodies;
+mod dying;
 mod effects;
 mod filling;
 mod keeping;
+mod literals;
 mod pads;
+mod segments;
 
 pub use filling::terms;

@@ -2,7 +2,7 @@
 use Rattle.std.specs.Prelude.{◌≡◌, ◌+◌, ◌-◌, ◌*◌, ◌&&◌, ◌||◌, ◌==◌, not, nat_lt, nat_le, ℕ, Bool, true, false, length, slice_get, Option, None, Some}
 use Rattle.lattice_words.specs.Words.{word_of}
 use Rattle.lattice_words.specs.declared.segment.TheConstants.{DEAD}
-use Rattle.lattice_words.specs.declared.function.TheConstants.{NOUNWIND, NO_WRITE_OF_INACCESSIBLEMEM}
+use Rattle.lattice_words.specs.declared.function.TheConstants.{NOFREE, NO_WRITE_OF_INACCESSIBLEMEM}
 use Rattle.lattice_words.specs.declared.value.TheConstants.{SAME_AS_PARAMETERS, NONNULL, BYTES_1024, NOT_UNKNOWN}
 use Rattle.lattice_words.specs.declared.reach.TheConstants.{BODIES}
 use Rattle.lattice_words.specs.declared.word.TheConstants.{FACT_BITS}
@@ -17,8 +17,10 @@ use Rattle.facts.specs.Facts.{Fact, is_effect}
 
 -- Which kinds of bit are built. A bit that is not built is in no mask, so no set has it and nothing is printed by it.
 abbrev pub is_built : Pos → ℕ → Bool
-is_built (pos.Function f) bit = bit == NOUNWIND
-is_built (pos.Effect k) bit = bit == NOUNWIND
+is_built (pos.Segment k) bit = true
+is_built (pos.Function f) bit = nat_le bit NOFREE
+is_built (pos.Reach row k) bit = true
+is_built (pos.Effect k) bit = nat_le bit NOFREE
 is_built _ bit = false
 
 -- the bit says that something is the same as a parameter that there is

@@ -1,5 +1,5 @@
 -- The laws of the single kinds, each given what the others show.
-use Rattle.std.proofs.Common.{◌≡◌, ◌≢◌, ℕ, ◌&&◌, not, Bool, true, false, List, [], ◌∷◌, slice_get, All, Option, None, Some, refl, sym, subst, ◌∙◌, true≢false}
+use Rattle.std.proofs.Common.{◌≡◌, ℕ, ◌&&◌, not, Bool, true, false, List, [], ◌∷◌, All, Some, refl, sym, subst, ◌∙◌, true≢false}
 use Rattle.std.specs.List.{AllByRecursion}
 use Rattle.std.proofs.lemmas.List.Elements.{recursion_from_All, All-from_recursion}
 use Rattle.shelf.proofs.Every.{every_mapped}
@@ -14,14 +14,14 @@ use Rattle.ir_machine.specs.declared.choice.Value.{Value}
 use Rattle.ir_machine.specs.Memory.{Memory}
 use Rattle.ir_machine.specs.Frames.{Begun, Active, Frame, Body, Outside, State, Event}
 use Rattle.ir_machine.specs.Runs.{Done, IsOpening, run}
-use Rattle.ir_machine.specs.Meanings.{nounwind, noreturn, nofree, BeginsIn}
+use Rattle.ir_machine.specs.Meanings.{nounwind, noreturn, nofree}
 use Rattle.ir_machine.specs.Honest.{IsHonest}
-use Rattle.fact_meanings.specs.Values.{IsInClasses, BitsHold, IsRight, FrameIsRight, FramesAreRight}
-use Rattle.fact_meanings.specs.Runs.{BodyHolds, EntryHolds, ReturnHolds, IsReturnOf, ReturnsHold, IsParamOf, FactsHold}
-use Rattle.law_premises.specs.Premises.{JustifiesItself, StandLive, TakesLiveEdges, IsControlled, KeepsTypes}
+use Rattle.fact_meanings.specs.Values.{IsInClasses, BitsHold, FrameIsRight, FramesAreRight}
+use Rattle.fact_meanings.specs.Runs.{BodyHolds, EntryHolds, ReturnHolds, IsReturnOf, ReturnsHold, FactsHold}
+use Rattle.law_premises.specs.Premises.{JustifiesItself, IsControlled}
 use Rattle.law_premises.specs.Types.{HasTypes, PassesAddresses, HasItsBits}
 use Rattle.laws_pointer.specs.Told.{is_number_bit, but_numbers}
-use Rattle.laws_of_control.proofs.Holding.{live_before, live_edges, never_done, body_holds, nounwind_kept, noreturn_kept, nofree_kept}
+use Rattle.laws_of_control.proofs.Holding.{all_controlled, never_done, body_holds, nounwind_kept, noreturn_kept, nofree_kept}
 use Rattle.laws_types.proofs.Holding.{keeps_types, passes_addresses}
 use Rattle.laws_pointer.proofs.Holding.{right_before, right_next, entries_of, returns_of}
 use Rattle.laws_effects.proofs.Holding.{memory_of_body}
@@ -101,10 +101,7 @@ module _ (m : Module) (formed : IsWellFormed m) (held : Fact → Bool) (is : Jus
   steps = run m opening choices
 
   controlled : All (IsControlled m held) steps
-  controlled =
-      both_all (λ (d : Done). StandLive held d.before.stack) (TakesLiveEdges m held) (IsControlled m held) steps
-      (λ d live edges. record { live = live; edges = edges })
-      (live_before m formed held is opening opens choices honest) (live_edges m formed held is opening opens choices honest)
+  controlled = all_controlled m formed held is opening opens choices honest
 
   addresses : All (PassesAddresses m) steps
   addresses = passes_addresses m formed types opening opens choices

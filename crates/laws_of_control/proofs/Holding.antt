@@ -26,7 +26,7 @@ use Rattle.ir_machine.proofs.Linked.{Linked, RunTheirCallees, all_linked}
 use Rattle.ir_machine.proofs.Opening.{opening_valid}
 use Rattle.ir_machine.proofs.Running.{IsValidStep, all_valid}
 use Rattle.fact_meanings.specs.Runs.{IsOutOf, IsNeverDone}
-use Rattle.law_premises.specs.Premises.{JustifiesItself, StandLive, TakesLiveEdges}
+use Rattle.law_premises.specs.Premises.{JustifiesItself, StandLive, TakesLiveEdges, IsControlled}
 use Rattle.laws_of_control.proofs.Able.{has_as, has, made_has, found_calls}
 use Rattle.laws_of_control.proofs.Moves.{Inv, C, Given, Right, MayHappen, control_law}
 use Rattle.laws_of_control.proofs.Steps.{control_step}
@@ -111,6 +111,13 @@ module _ (m : Module) (formed : IsWellFormed m) (held : Fact → Bool) (is : Jus
       (run_given m (Known m formed held is) (TakesLiveEdges m held) (λ t choice. edges_step m formed held is t choice) choices opening
       (both_of (Shown (Linked m formed) (RunTheirCallees m formed)) (Shown (Inv m formed held is) (Right m formed held is)) (Known m formed held is) steps
       (λ d shown live. (shown.before, live.before, live.events)) linked all_control))
+
+  -- so control goes as the facts say
+  pub all_controlled : All (IsControlled m held) steps
+  all_controlled = All-from_recursion (IsControlled m held) steps
+      (both_of (λ (d : Done). StandLive held d.before.stack) (TakesLiveEdges m held) (IsControlled m held) steps
+      (λ d live edges. record { live = live; edges = edges }) (recursion_from_All (λ (d : Done). StandLive held d.before.stack) steps live_before)
+      (recursion_from_All (TakesLiveEdges m held) steps live_edges))
 
   -- ---- attributes of calls
 

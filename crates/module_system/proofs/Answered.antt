@@ -1,6 +1,6 @@
 -- The system that the calls fill is the system of the module.
-use Rattle.std.proofs.Common.{arith, ◌≡◌, ◌<◌, ◌^◌, ◌&&◌, ◌⊎◌, ◌↔◌, nat_le, ℕ, zero, suc, Bool, true, false, IsTrue, List, [], ◌∷◌, length, map, get_or, All}
-use Rattle.std.proofs.Common.{slice_get, Some, inl, inr, refl, sym, ap, subst, ◌∙◌, eqb-true}
+use Rattle.std.proofs.Common.{◌≡◌, ◌<◌, ◌^◌, ◌⊎◌, ℕ, zero, suc, Bool, true, false, List, [], length, get_or, All}
+use Rattle.std.proofs.Common.{slice_get, Some, inl, inr, refl, sym, ap, subst, ◌∙◌}
 use Rattle.std.specs.Prelude.{replicate, slice_index_or}
 use Rattle.std.specs.List.{flat_map}
 use Rattle.std.proofs.lemmas.Bool.{and_parts}
@@ -12,37 +12,35 @@ use Rattle.attr_ids.specs.declared.ids.PosId.{PosId}
 use Rattle.ir_module.specs.declared.module.Module.{Module}
 use Rattle.facts.specs.declared.pos.Pos.{Pos}
 use Rattle.facts.specs.declared.pos.Pos.TheVariants as pos
-use Rattle.facts.specs.Facts.{Fact, fact}
+use Rattle.facts.specs.Facts.{Fact}
 use Rattle.facts.specs.Masks.{is_built, has_bit_of, is_bit, mask_of}
 use Rattle.facts.specs.Names.{Names, AreNamed}
+use Rattle.facts.specs.Justified.{Rule}
 use Rattle.rule_terms.specs.declared.term.NewTerm.{NewTerm}
 use Rattle.rule_terms.specs.Names.{has_name, names_of, with_names}
-use Rattle.rule_terms.specs.System.{System, IsSystem, with_masks, inputs_of, terms_at}
+use Rattle.rule_terms.specs.System.{System, IsSystem, with_masks}
 use Rattle.positions.specs.Numbering.{Numbered}
 use Rattle.rule_says.specs.Reading.{IsNumbering}
 use Rattle.rule_says.specs.Saying.{IsSpokenOf}
 use Rattle.rule_says.specs.Meeting.{Meets, IsInput}
-use Rattle.rule_says.proofs.Mets.{meets_iff}
+use Rattle.rule_says.proofs.Mets.{meets_then, meets_iff}
 use Rattle.aa_control.specs.Control.{is_control, AsksControl, SpeaksControl}
+use Rattle.aa_reach.specs.Reached.{is_reach, AsksReach, SpeaksReach}
 use Rattle.module_system.specs.Filled.{AsksRule, SpeaksRule, IsSystemOf, AreInputs, inputs_below, input_count}
 use Rattle.module_system.proofs.Counted.{counted}
 
 crash : {A : Type 0} → false ≡ true → A
 crash e = absurd (cc)
 
--- each bit that is built is one of control
-all_control : (m : Module) (p : Pos) (bit : ℕ) → is_bit m p bit ≡ true → is_control p bit ≡ true
-all_control m (pos.Segment k) bit e = refl
-all_control m (pos.Function f) bit e =
-    let zero = eqb-true bit 0 (and_parts (is_built (pos.Function f) bit) (has_bit_of m (pos.Function f) bit) e).0 in
-    ap (λ n. nat_le n 2) zero
-all_control m (pos.Effect k) bit e =
-    let zero = eqb-true bit 0 (and_parts (is_built (pos.Effect k) bit) (has_bit_of m (pos.Effect k) bit) e).0 in
-    ap (λ n. nat_le n 2) zero
-all_control m (pos.Value v) bit e = crash e
-all_control m (pos.Entry f at) bit e = crash e
-all_control m (pos.Return f) bit e = crash e
-all_control m (pos.Reach row k) bit e = crash e
+-- each bit that is built is one of control or of reach
+all_ruled : (m : Module) (p : Pos) (bit : ℕ) → is_bit m p bit ≡ true → (is_control p bit ≡ true) ⊎ (is_reach p ≡ true)
+all_ruled m (pos.Segment k) bit e = inl refl
+all_ruled m (pos.Function f) bit e = inl (and_parts (is_built (pos.Function f) bit) (has_bit_of m (pos.Function f) bit) e).0
+all_ruled m (pos.Effect k) bit e = inl (and_parts (is_built (pos.Effect k) bit) (has_bit_of m (pos.Effect k) bit) e).0
+all_ruled m (pos.Reach row k) bit e = inr refl
+all_ruled m (pos.Value v) bit e = crash e
+all_ruled m (pos.Entry f at) bit e = crash e
+all_ruled m (pos.Return f) bit e = crash e
 
 -- masks have bits of facts alone
 pub small_masks : (m : Module) (ps : Numbered) → IsNumbering m ps → All (λ mask. mask < 2 ^ FACT_BITS) ps.masks
@@ -57,22 +55,41 @@ pub long_masks : (m : Module) (ps : Numbered) → IsNumbering m ps → length ps
 long_masks m ps is = ap length is.masks ∙ length-map ps.list (mask_of m)
 
 module _ (m : Module) (ps : Numbered) (is : IsNumbering m ps) where
-  -- the rules of control are all rules that are built
-  filled : (masks : List ℕ) (s : System) → IsSystem s → masks ≡ ps.masks → Meets m ps (with_masks masks) s (AsksControl m) (SpeaksControl m) → IsSystemOf m ps s
-  filled masks s system same met = record {
-    system = system;
-    masks = met.masks ∙ same;
-    meets = subst (λ ms. Meets m ps (with_masks ms) s (AsksRule m) (SpeaksRule m)) same
-        (meets_iff m ps (with_masks masks) s (AsksControl m) (AsksRule m) (SpeaksControl m) (SpeaksRule m) met
-        (λ held p bit. ((λ h has. h (all_control m p bit has) has), λ h control has. h has))
-        (λ p y. ((λ w. (w.0, w.2, w.3)), λ w. (w.0, all_control m p w.0 w.1, w.1, w.2))));
-  }
+  -- the rules of control and those of reach are all rules that are built
+  filled : (masks : List ℕ) (mid s : System) → IsSystem s → masks ≡ ps.masks → Meets m ps (with_masks masks) mid (AsksControl m) (SpeaksControl m) →
+      Meets m ps mid s (AsksReach m) (SpeaksReach m) → IsSystemOf m ps s
+  filled masks mid s system same control reach =
+      let met = meets_then m ps (with_masks masks) mid s (AsksControl m) (AsksReach m) (SpeaksControl m) (SpeaksReach m) control reach in record {
+        system = system;
+        masks = met.masks ∙ same;
+        meets = subst (λ ms. Meets m ps (with_masks ms) s (AsksRule m) (SpeaksRule m)) same
+            (meets_iff m ps (with_masks masks) s (λ held p bit. AsksControl m held p bit × AsksReach m held p bit) (AsksRule m)
+            (λ p y. SpeaksControl m p y ⊎ SpeaksReach m p y) (SpeaksRule m) met
+            (λ held p bit. (
+              (λ h has. ruled held p bit h has (all_ruled m p bit has)),
+              λ h. ((λ of has. h has), λ of has. h has),
+            ))
+            (λ p y. ((λ w. down p y w), λ w. up p y w (all_ruled m p w.0 w.1))));
+      }
+    where
+      ruled : (held : Fact → Bool) (p : Pos) (bit : ℕ) → AsksControl m held p bit × AsksReach m held p bit → is_bit m p bit ≡ true →
+          (is_control p bit ≡ true) ⊎ (is_reach p ≡ true) → Rule m held p bit
+      ruled held p bit h has (inl of) = h.0 of has
+      ruled held p bit h has (inr of) = h.1 of has
+
+      down : (p : Pos) (y : Fact) → SpeaksControl m p y ⊎ SpeaksReach m p y → SpeaksRule m p y
+      down p y (inl w) = (w.0, w.2, w.3)
+      down p y (inr w) = (w.0, w.2, w.3)
+
+      up : (p : Pos) (y : Fact) (w : SpeaksRule m p y) → (is_control p w.0 ≡ true) ⊎ (is_reach p ≡ true) → SpeaksControl m p y ⊎ SpeaksReach m p y
+      up p y w (inl of) = inl (w.0, of, w.1, w.2)
+      up p y w (inr of) = inr (w.0, of, w.1, w.2)
 
   -- the same, where the system was made of the masks
-  pub answered : (masks : List ℕ) (made s : System) → IsSystem s → masks ≡ ps.masks → made ≡ with_masks masks →
-      Meets m ps made s (AsksControl m) (SpeaksControl m) → IsSystemOf m ps s
-  answered masks made s system same is_made met =
-      filled masks s system same (subst (λ x. Meets m ps x s (AsksControl m) (SpeaksControl m)) is_made met)
+  pub answered : (masks : List ℕ) (made mid s : System) → IsSystem s → masks ≡ ps.masks → made ≡ with_masks masks →
+      Meets m ps made mid (AsksControl m) (SpeaksControl m) → Meets m ps mid s (AsksReach m) (SpeaksReach m) → IsSystemOf m ps s
+  answered masks made mid s system same is_made control reach =
+      filled masks mid s system same (subst (λ x. Meets m ps x mid (AsksControl m) (SpeaksControl m)) is_made control) reach
 
   -- a system of masks has no inputs
   empties : ℕ → List (List NewTerm)

@@ -1,36 +1,36 @@
 -- The greatest words of a module's system hold the greatest set of its facts. The words of effects are raised, from the
 -- words of facts, to what the system leaves there: then they are what the set of facts gives.
-use Rattle.std.proofs.Common.{arith, ◌≡◌, ◌+◌, ◌-◌, ◌<◌, ◌≤◌, ◌^◌, ◌==◌, ◌&&◌, ◌⊎◌, ◌↔◌, not, if◌then◌else◌, ℕ, zero, suc, Bool, true, false, List, [], ◌∷◌}
-use Rattle.std.proofs.Common.{length, map, All, slice_get, slice_index, Option, None, Some, refl, sym, ap, subst, ◌∙◌, inl, inr, eq-eqb, eqb-true}
+use Rattle.std.proofs.Common.{arith, ◌≡◌, ◌+◌, ◌<◌, ◌≤◌, ◌^◌, ◌&&◌, ◌⊎◌, ◌↔◌, not, if◌then◌else◌, ℕ, zero, suc, Bool, true, false, List, [], ◌∷◌}
+use Rattle.std.proofs.Common.{length, slice_get, slice_index, Option, None, Some, refl, sym, ap, subst, ◌∙◌, inl, inr}
 use Rattle.std.specs.Int.{bit_at}
 use Rattle.std.specs.Prelude.{replicate, slice_index_or, bit_and}
-use Rattle.std.proofs.lemmas.Bool.{and_parts, and_from, cases_lt, not-true, both_ways}
-use Rattle.std.proofs.lemmas.Option.{slice_get_within, slice_get-get_or, slice_get_past}
+use Rattle.std.proofs.lemmas.Bool.{cases_lt, both_ways}
+use Rattle.std.proofs.lemmas.Option.{slice_get_within, slice_get_past}
 use Rattle.std.proofs.lemmas.List.{length-map, get_or_past}
 use Rattle.std.proofs.lemmas.List.Elements.{All-get_or, All-from_get_or}
 use Rattle.std.proofs.lemmas.Nat.{and_le_l}
 use Rattle.std.proofs.lemmas.Nat.Bits.{bit_at-lt, bit_at_above, bit_at-zero, bit_at_and}
 use Rattle.lattice_words.specs.declared.word.TheConstants.{FACT_BITS}
-use Rattle.lattice_words.specs.Words.{has_bit, bit_of, word_of, IsWithin}
+use Rattle.lattice_words.specs.Words.{bit_of, word_of, IsWithin}
 use Rattle.lattice_words.proofs.WordBits.{bit_at-word_of, word_of-lt}
 use Rattle.ir_module.specs.declared.module.Module.{Module}
 use Rattle.facts.specs.declared.pos.Pos.{Pos}
 use Rattle.facts.specs.declared.pos.Pos.TheVariants as pos
 use Rattle.facts.specs.Facts.{Fact, fact, function, effect, is_effect}
-use Rattle.facts.specs.Masks.{is_bit, mask_of, IsFact}
-use Rattle.facts.specs.Justified.{JustifiedAt, Justified, EachEffect, Rule, AreEffects, HasMore, SupportsItself, IsGreatest}
+use Rattle.facts.specs.Masks.{is_bit, mask_of}
+use Rattle.facts.specs.Justified.{JustifiedAt, EachEffect, Rule, AreEffects, HasMore, SupportsItself, IsGreatest}
 use Rattle.facts.proofs.Growing.{justified_more}
 use Rattle.facts.proofs.Effects.{effects_stand}
 use Rattle.rule_terms.specs.declared.term.NewTerm.{NewTerm}
 use Rattle.rule_terms.specs.Meaning.{meaning, meet_of}
-use Rattle.rule_terms.specs.System.{System, IsSystem, with_masks, terms_at, value, value_in}
+use Rattle.rule_terms.specs.System.{System, with_masks, terms_at, value, value_in}
 use Rattle.rule_terms.specs.Greatest as rule
 use Rattle.rule_terms.proofs.Monotone.{value-within}
-use Rattle.positions.specs.Numbering.{Numbered, IsListed}
+use Rattle.positions.specs.Numbering.{Numbered}
 use Rattle.rule_says.specs.Reading.{held_in, facts_in, AreLegal, IsNumbering}
 use Rattle.rule_says.specs.Saying.{IsSet}
-use Rattle.rule_says.proofs.Held.{set_bit, bit_set, mask_at, mask_bits, held_gives, has_at_set, legal_bit, is_bit_small, listed}
-use Rattle.module_system.specs.Filled.{AsksRule, IsSystemOf}
+use Rattle.rule_says.proofs.Held.{mask_at, mask_bits, held_gives, has_at_set, legal_bit, is_bit_small, listed}
+use Rattle.module_system.specs.Filled.{IsSystemOf}
 
 -- ---- sets with and without effects
 

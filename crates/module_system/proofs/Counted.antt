@@ -1,6 +1,6 @@
 -- The inputs of a module's system are as many as the pairs of a position and one that it names.
-use Rattle.std.proofs.Common.{arith, ◌≡◌, ◌+◌, ◌<◌, ◌≤◌, ◌⊎◌, ◌↔◌, ◌==◌, eq-eqb, eqb-true, ℕ, zero, suc, Bool, true, false, IsTrue, List, [], ◌∷◌, ◌++◌, length}
-use Rattle.std.proofs.Common.{map, get_or, slice_get, Option, None, Some, refl, sym, ap, subst, ◌∙◌, inl, inr}
+use Rattle.std.proofs.Common.{arith, ◌≡◌, ◌+◌, ◌<◌, ◌≤◌, ◌⊎◌, ◌==◌, eq-eqb, eqb-true, ℕ, zero, suc, true, List, [], ◌∷◌, ◌++◌, length}
+use Rattle.std.proofs.Common.{map, get_or, slice_get, Some, refl, sym, ap, subst, ◌∙◌, inl, inr}
 use Rattle.std.proofs.lemmas.Bool.{cases_eq, or_cases, or_left, or_right}
 use Rattle.std.proofs.lemmas.List.{length-map, length-append}
 use Rattle.std.proofs.lemmas.Option.{slice_get_within, slice_get-get_or, get_or_from_slice_get, slice_get-map}
@@ -16,7 +16,6 @@ use Rattle.rule_terms.proofs.Naming.{inputs-once}
 use Rattle.positions.specs.Numbering.{Numbered}
 use Rattle.rule_says.specs.Reading.{IsNumbering}
 use Rattle.rule_says.proofs.Held.{listed}
-use Rattle.rule_says.specs.Meeting.{IsInput}
 use Rattle.module_system.specs.Filled.{AreInputs, inputs_below}
 
 -- ---- lists without repeats

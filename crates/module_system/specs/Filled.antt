@@ -1,5 +1,5 @@
 -- The system of a module: its masks, with the rules of all its positions met in.
-use Rattle.std.specs.Prelude.{◌≡◌, ◌↔◌, ◌+◌, ℕ, Bool, true, zero, suc, List, slice_get, slice_index, length, Some}
+use Rattle.std.specs.Prelude.{◌≡◌, ◌↔◌, ◌+◌, ℕ, Bool, true, zero, suc, slice_get, length, Some}
 use Rattle.attr_ids.specs.declared.ids.PosId.{PosId}
 use Rattle.ir_module.specs.declared.module.Module.{Module}
 use Rattle.facts.specs.declared.pos.Pos.{Pos}

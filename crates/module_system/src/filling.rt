@@ -8,7 +8,6 @@ ghost use Rattle.rule_says.specs.Reading.{IsNumbering, facts_in};
 ghost use Rattle.module_system.specs.Filled.{IsSystemOf, AreInputs, input_count};
 ghost use Rattle.facts.specs.declared.pos.Pos.{Pos};
 
-use aa_control::terms;
 use attr_ids::{NoMemory, PosId, Sequence, WordList};
 use ir_module::Module;
 use ir_uses::Uses;
@@ -41,7 +40,8 @@ pub fn system(alloc: Global, m: &Module, u: &Uses, p: &Positions) -> Result<Syst
 {
     let _positions = p.count();
     let mut s = System::new(alloc, masks(alloc, p)?)?;
-    terms(alloc, m, u, p, &mut s)?;
+    aa_control::terms(alloc, m, u, p, &mut s)?;
+    aa_reach::terms(alloc, m, u, p, &mut s)?;
     let _count = s.count();
     Ok(s)
 }

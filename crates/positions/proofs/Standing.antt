@@ -1,8 +1,8 @@
 -- Each position of a module stands at one place of the list, which is told by what stands before it; and what stands there is one.
-use Rattle.std.proofs.Common.{arith, ◌≡◌, ◌+◌, ◌*◌, ◌/◌, ◌<◌, ◌≤◌, ◌⊎◌, inl, inr, if◌then◌else◌, ℕ, zero, suc, Bool, true, false, ◌&&◌, nat_lt, Option, None}
-use Rattle.std.proofs.Common.{Some, List, [], ◌∷◌, ◌++◌, length, slice_get, refl, sym, ap, subst, ◌∙◌}
+use Rattle.std.proofs.Common.{arith, ◌≡◌, ◌+◌, ◌*◌, ◌/◌, ◌<◌, ◌≤◌, inl, inr, if◌then◌else◌, ℕ, suc, Bool, true, false, Option, None}
+use Rattle.std.proofs.Common.{Some, List, [], ◌++◌, length, slice_get, refl, sym, subst, ◌∙◌}
 use Rattle.std.specs.Option.{option_map_or}
-use Rattle.std.proofs.lemmas.Option.{slice_get_cases, slice_get_within}
+use Rattle.std.proofs.lemmas.Option.{slice_get_within}
 use Rattle.ir_module.specs.declared.module.Module.{Module}
 use Rattle.ir_module.specs.declared.module.Func.{Func}
 use Rattle.ir_module.specs.declared.module.Param.{Param}
@@ -11,7 +11,7 @@ use Rattle.ir_module.specs.Calls.{has_blocks}
 use Rattle.facts.specs.declared.pos.Pos.{Pos}
 use Rattle.facts.specs.declared.pos.Pos.TheVariants as pos
 use Rattle.facts.specs.Bodies.{is_body, body_count, param_of, param_in, param_count}
-use Rattle.facts.specs.Masks.{is_pointer_param, has_bit_of}
+use Rattle.facts.specs.Masks.{is_pointer_param}
 use Rattle.facts.specs.Facts.{segment, function, value, entry, returned, effect}
 use Rattle.positions.specs.Order.{up_to, segment_at, body_at, value_at, entry_at, entries_at, return_at, word_at, row_at, effect_at, row_words, belongs}
 use Rattle.positions.specs.Order.{positions_of, from_bodies, from_values, from_entries, from_returns, from_rows, from_effects}

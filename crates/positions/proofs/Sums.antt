@@ -6,8 +6,8 @@ use Rattle.std.proofs.lemmas.Option.{slice_get_cases}
 use Rattle.ir_module.specs.declared.module.Module.{Module}
 use Rattle.ir_module.specs.Calls.{has_blocks}
 use Rattle.facts.specs.Bodies.{is_body, rank, body_count}
-use Rattle.facts.specs.Facts.{function, returned}
-use Rattle.positions.specs.Order.{up_to, segment_at, body_at, value_at, entries_at, return_at, word_at, row_at, effect_at, row_words, positions_of}
+use Rattle.facts.specs.Facts.{function}
+use Rattle.positions.specs.Order.{up_to, segment_at, body_at, value_at, entries_at, effect_at, row_words, positions_of}
 use Rattle.positions.proofs.Growth.{longer, one_or_none, no_count}
 use Rattle.positions.proofs.Parts.{ones}
 use Rattle.positions.proofs.Standing.{rows_before}

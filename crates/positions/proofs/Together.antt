@@ -1,5 +1,5 @@
 -- The list as it is made, kind by kind, and its tables.
-use Rattle.std.proofs.Common.{arith, ◌≡◌, ◌+◌, ◌*◌, ◌/◌, ◌≤◌, ℕ, suc, List, [], ◌++◌, length, refl, sym, ap, subst, ◌∙◌}
+use Rattle.std.proofs.Common.{arith, ◌≡◌, ◌+◌, ◌/◌, ℕ, suc, List, [], ◌++◌, length, refl, sym, ap, subst, ◌∙◌}
 use Rattle.std.proofs.lemmas.List.{length-append, append_assoc}
 use Rattle.ir_module.specs.declared.module.Module.{Module}
 use Rattle.facts.specs.declared.pos.Pos.{Pos}
@@ -7,7 +7,7 @@ use Rattle.facts.specs.Bodies.{body_count}
 use Rattle.positions.specs.Order.{up_to, segment_at, body_at, value_at, entries_at, return_at, word_at, row_at, effect_at, positions_of, from_bodies}
 use Rattle.positions.specs.Order.{from_values, from_entries, from_returns, from_rows}
 use Rattle.positions.proofs.Parts.{ones}
-use Rattle.positions.proofs.Standing.{positions_are, first_body, first_value, first_entry, first_return, first_row, first_effect}
+use Rattle.positions.proofs.Standing.{positions_are, first_body, first_effect}
 
 -- the first body stands behind all segments
 pub segments : (m : Module) → first_body m ≡ length m.segs

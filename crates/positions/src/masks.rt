@@ -8,7 +8,7 @@ use crate::module::{is_body, is_pointer, is_pointer_param, is_void};
 use attr_ids::NoMemory;
 use facts::Pos;
 use ir_module::Module;
-use lattice_words::function::{NO_WRITE_OF_INACCESSIBLEMEM, NOUNWIND};
+use lattice_words::function::{NO_WRITE_OF_INACCESSIBLEMEM, NOFREE};
 use lattice_words::reach::BODIES;
 use lattice_words::segment::DEAD;
 use lattice_words::value::{BYTES_1024, NONNULL, NOT_UNKNOWN, SAME_AS_PARAMETERS};
@@ -20,13 +20,13 @@ pub fn is_built(p: Pos, bit: u32) -> bool
     ensures { result ≡ masks.is_built p bit }
 {
     match p {
-        Pos::Function(_) => bit == NOUNWIND,
-        Pos::Effect(_) => bit == NOUNWIND,
-        Pos::Segment(_) => false,
+        Pos::Segment(_) => true,
+        Pos::Function(_) => bit <= NOFREE,
+        Pos::Reach(_, _) => true,
+        Pos::Effect(_) => bit <= NOFREE,
         Pos::Value(_) => false,
         Pos::Entry(_, _) => false,
         Pos::Return(_) => false,
-        Pos::Reach(_, _) => false,
     }
 }
 

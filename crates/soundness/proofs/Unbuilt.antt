@@ -1,29 +1,26 @@
--- What a set of facts says of which `nounwind` alone is built: all else says nothing, for no such set has another fact.
-use Rattle.std.proofs.Common.{◌≡◌, ◌≢◌, ◌+◌, ◌<◌, ◌⊎◌, ◌||◌, ℕ, Bool, true, false, if◌then◌else◌, List, [], ◌∷◌, slice_get, Option, None, Some, All, refl, sym}
-use Rattle.std.proofs.Common.{ap, ◌∙◌, inl, inr, true≢false}
-use Rattle.std.specs.List.{AllByRecursion}
+-- What a set of facts says of which those of control and of reach alone are built: all else says nothing, for no such set has
+-- another fact.
+use Rattle.std.proofs.Common.{◌≡◌, ◌+◌, ◌||◌, ℕ, Bool, true, false, if◌then◌else◌, List, Some, All, refl, sym}
+use Rattle.std.proofs.Common.{ap, ◌∙◌, inl, true≢false}
 use Rattle.std.proofs.lemmas.List.Elements.{All-from_recursion}
 use Rattle.shelf.proofs.Every.{every_always}
 use Rattle.ir_module.specs.declared.module.Module.{Module}
 use Rattle.facts.specs.declared.pos.Pos.{Pos}
-use Rattle.facts.specs.declared.pos.Pos.TheVariants as pos
 use Rattle.facts.specs.Kinds.{Access, Read as Reads, Write as Writes, Location, Default, Argmem, Inaccessible, NoUnwind, NoReturn, NoFree, NoAccess, UseFact}
 use Rattle.facts.specs.Kinds.{CapturedByReturnAlone, NotReturned, NotThrough, use_bit, class_bit, Unknown}
-use Rattle.facts.specs.Bodies.{body_count}
-use Rattle.facts.specs.Facts.{Fact, fact, segment, function, value, entry, returned, dead, of_function, of_value, at_entry, of_return, unreached_by}
+use Rattle.facts.specs.Facts.{Fact, fact, function, value, entry, returned, dead, of_function}
 use Rattle.facts.specs.Masks.{is_built}
 use Rattle.facts.specs.Justified.{SupportsItself}
 use Rattle.facts.proofs.Unbuilt.{unbuilt}
 use Rattle.ir_machine.specs.declared.choice.Datum.{Datum}
-use Rattle.ir_machine.specs.declared.choice.Mark.{Mark}
 use Rattle.ir_machine.specs.declared.choice.Value.{Value}
-use Rattle.ir_machine.specs.Memory.{Memory, Dead}
+use Rattle.ir_machine.specs.Memory.{Memory}
 use Rattle.ir_machine.specs.Frames.{Begun, Frame, Body, Outside, Active, State, What, Enter, Read, Write, HiddenRead, HiddenWrite, Free, Capture, Return}
 use Rattle.ir_machine.specs.Frames.{Unwind, Event}
 use Rattle.ir_machine.specs.Runs.{Done, events_of}
-use Rattle.ir_machine.specs.Meanings.{Keeps, nounwind, memory, MeetsMemory, HoldsOfBody, allows_reads, allows_writes}
-use Rattle.fact_meanings.specs.Values.{BitsHold, IsInClasses, IsRight, FrameIsRight, FramesAreRight}
-use Rattle.fact_meanings.specs.Runs.{left, allowed, memory_of, BodyHolds, RowHolds, EntryHolds, IsReturnOf, ReturnHolds, ReturnsHold, UsesHold, ParamUsesHold}
+use Rattle.ir_machine.specs.Meanings.{Keeps, nounwind, noreturn, nofree, memory, MeetsMemory, HoldsOfBody, allows_reads, allows_writes}
+use Rattle.fact_meanings.specs.Values.{IsInClasses, FrameIsRight, FramesAreRight}
+use Rattle.fact_meanings.specs.Runs.{left, allowed, memory_of, IsNeverDone, RowHolds, EntryHolds, IsReturnOf, ReturnHolds, ReturnsHold, UsesHold, ParamUsesHold}
 use Rattle.fact_meanings.specs.Runs.{StaysClean, has_use, is_unstored, FactsHold}
 
 module _ (m : Module) (held : Fact → Bool) (is : SupportsItself m held) where
@@ -71,16 +68,6 @@ module _ (m : Module) (held : Fact → Bool) (is : SupportsItself m held) where
   memory_holds f steps a of =
       All-from_recursion (Keeps (memory (memory_of held f)) a) (events_of steps) (every_always (Keeps (memory (memory_of held f)) a) (events_of steps)
       (λ e during. meets f a.call e.what))
-
-  -- ---- bodies
-
-  body_holds : (f : ℕ) (steps : List Done) → (held (of_function NoUnwind f) ≡ true → HoldsOfBody nounwind f steps) → BodyHolds held f steps
-  body_holds f steps holds = record {
-    nounwind = holds;
-    noreturn = λ has. absurd (never (function f) _ refl has);
-    nofree = λ has. absurd (never (function f) _ refl has);
-    memory = memory_holds f steps;
-  }
 
   -- ---- values: a pointer may be to any block
 
@@ -130,12 +117,6 @@ module _ (m : Module) (held : Fact → Bool) (is : SupportsItself m held) where
 
   -- ---- the whole
 
-  row_holds : (r t : ℕ) (steps : List Done) → RowHolds m held r t steps
-  row_holds r t steps = record {
-    body = λ has. absurd (never (unreached_by r t).pos (unreached_by r t).bit refl has);
-    outside = λ has. absurd (never (unreached_by (body_count m) t).pos (unreached_by (body_count m) t).bit refl has);
-  }
-
   entry_holds : (f at : ℕ) (d : Done) → EntryHolds held f at d
   entry_holds f at d a x begins of arg = λ bit has. absurd (never (entry f at) bit refl has)
 
@@ -147,11 +128,19 @@ module _ (m : Module) (held : Fact → Bool) (is : SupportsItself m held) where
       } in
       always (λ e. (a : Active) (x : Value) → a.body ≡ Some f → IsReturnOf a x e → ReturnHolds held f d a x) d.events each
 
-  pub facts_hold : (steps : List Done) → ((f : ℕ) → held (of_function NoUnwind f) ≡ true → HoldsOfBody nounwind f steps) → FactsHold m held steps
-  facts_hold steps holds = record {
-    dead = λ k has. absurd (never (segment k) _ refl has);
-    bodies = λ f. body_holds f steps (holds f);
-    rows = λ r t. row_holds r t steps;
+  pub facts_hold : (steps : List Done) → ((k : ℕ) → held (dead k) ≡ true → IsNeverDone k steps) →
+      ((f : ℕ) → held (of_function NoUnwind f) ≡ true → HoldsOfBody nounwind f steps) →
+      ((f : ℕ) → held (of_function NoReturn f) ≡ true → HoldsOfBody noreturn f steps) →
+      ((f : ℕ) → held (of_function NoFree f) ≡ true → HoldsOfBody nofree f steps) → ((r t : ℕ) → RowHolds m held r t steps) → FactsHold m held steps
+  facts_hold steps dead unwinding returning freeing rows = record {
+    dead = dead;
+    bodies = λ f. record {
+      nounwind = unwinding f;
+      noreturn = returning f;
+      nofree = freeing f;
+      memory = memory_holds f steps;
+    };
+    rows = rows;
     values = always (λ d. FramesAreRight held d.before × FramesAreRight held d.next) steps (λ d. (frames_right d.before, frames_right d.next));
     entries = λ f at. always (EntryHolds held f at) steps (entry_holds f at);
     returns = λ f. always (ReturnsHold held f) steps (returns_hold f);

@@ -4,17 +4,19 @@ use Rattle.ir_module.specs.declared.module.Module.{Module}
 use Rattle.ir_machine.specs.declared.choice.Choice.{Choice}
 use Rattle.ir_machine.specs.Frames.{State}
 use Rattle.ir_machine.specs.Runs.{Done, IsOpening, run}
-use Rattle.ir_machine.specs.Meanings.{nounwind}
+use Rattle.ir_machine.specs.Meanings.{nounwind, noreturn, nofree}
 use Rattle.ir_machine.specs.Honest.{IsHonest}
-use Rattle.facts.specs.Kinds.{NoUnwind}
+use Rattle.facts.specs.Kinds.{NoUnwind, NoReturn, NoFree}
 use Rattle.facts.specs.Facts.{Fact}
 use Rattle.fact_meanings.specs.Runs.{FactsHold}
 use Rattle.laws_of_control.specs.Control.{HoldsAtCalls}
 
--- each fact of the set holds in the run, and `nounwind` holds of the calls whose callee has it or promises it
+-- each fact of the set holds in the run, and each of three attributes holds of the calls whose callee has it or promises it
 pub record AllHold (m : Module) (held : Fact → Bool) (steps : List Done) : Type 0 where
   pub facts : FactsHold m held steps
-  pub calls : HoldsAtCalls m held NoUnwind nounwind steps
+  pub unwinding : HoldsAtCalls m held NoUnwind nounwind steps
+  pub returning : HoldsAtCalls m held NoReturn noreturn steps
+  pub freeing : HoldsAtCalls m held NoFree nofree steps
 
 -- in every honest run, from every opening state and by every list of choices
 abbrev pub IsSound : Module → (Fact → Bool) → Type 0

@@ -6,7 +6,7 @@ ghost use Rattle.facts.specs.Justified.{SupportsItself};
 ghost use Rattle.soundness.specs.Soundness.{IsSound};
 
 /// In every honest run of a well formed module, whatever its opening and its choices are, each fact of a set that supports
-/// itself holds, and `nounwind` holds of each call whose callee has it or promises it.
+/// itself holds, and `nounwind`, `noreturn` and `nofree` hold of each call whose callee has them or promises them.
 pub fn every_fact_holds()
     ensures { (m : Module) → IsWellFormed m → (held : Fact → Bool) → SupportsItself m held → IsSound m held }
 {}

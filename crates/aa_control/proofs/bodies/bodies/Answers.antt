@@ -1,4 +1,4 @@
-use Rattle.std.proofs.Common.{arith, length, ap}
+use Rattle.std.proofs.Common.{arith}
 use Rattle.shelf.proofs.Shelf.{get_there as there}
 use Rattle.rule_says.proofs.Firsts.{first_none, first_more, first_all}
 use Rattle.aa_control.specs.Asked.{AsksBody, SpeaksBody}

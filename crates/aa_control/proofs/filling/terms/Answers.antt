@@ -4,5 +4,5 @@ use Rattle.aa_control.proofs.filling.terms.Goals as goal
 
 pub returns : goal.returns
 returns c =
-    on_ok_weaker c.bodies.result (λ met. all_met c.args.m.now c.args.p.now c.requires.numbering c.args.s.now c.effects.new.s c.bodies.new.s
-    c.in_ok-effects.ensures met) c.bodies.ensures
+    on_ok_weaker c.deads.result (λ met. all_met c.args.m.now c.args.p.now c.requires.numbering c.args.s.now c.effects.new.s c.bodies.new.s c.deads.new.s
+    c.in_ok-effects.ensures c.in_ok-bodies.ensures met) c.deads.ensures

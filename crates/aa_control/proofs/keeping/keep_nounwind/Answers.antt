@@ -1,7 +1,6 @@
-use Rattle.std.proofs.Common.{◌≡◌, refl, sym, ap, ◌∙◌}
+use Rattle.std.proofs.Common.{refl, sym, ◌∙◌}
 use Rattle.std.proofs.lemmas.Result.{on_ok_weaker}
 use Rattle.facts.specs.Kinds.{NoUnwind}
-use Rattle.facts.specs.Facts.{segment, effect}
 use Rattle.aa_control.proofs.Instrs.{no_callee, call_concerned, resume_concerned, resume_fails, resume_no_call, others_keep, others_free}
 use Rattle.aa_control.proofs.Kept.{kept, unconcerned, never}
 use Rattle.aa_control.proofs.keeping.keep_nounwind.Goals as goal

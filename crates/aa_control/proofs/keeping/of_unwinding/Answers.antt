@@ -1,6 +1,5 @@
 use Rattle.std.proofs.Common.{◌≡◌, ◌^◌, refl, sym, ap, ◌∙◌}
 use Rattle.std.proofs.lemmas.Result.{IfOk-weaker}
-use Rattle.ir_module.specs.Calls.{is_promised, Nounwind}
 use Rattle.facts.specs.Kinds.{NoUnwind}
 use Rattle.facts.specs.Promises.{CallSpeaks}
 use Rattle.rule_terms.specs.declared.term.NewTerm.TheOpen.{NewTerm-F as new}

@@ -1,4 +1,4 @@
-use Rattle.std.proofs.Common.{arith, ◌≡◌, ◌<◌, ◌^◌, All, List, length, sym, ap, subst, ◌∙◌}
+use Rattle.std.proofs.Common.{arith, ◌<◌, ◌^◌, All, length, sym, ap, subst}
 use Rattle.lattice_words.specs.declared.word.TheConstants.{FACT_BITS}
 use Rattle.module_system.proofs.Answered.{small_masks, long_masks, answered, inputs_named, inputs_counted}
 use Rattle.module_system.proofs.Composed.{composed}
@@ -19,19 +19,19 @@ pub new-requires-clause-facts : goal.new-requires-clause-facts
 new-requires-clause-facts c =
     subst (All (λ mask. mask < 2 ^ FACT_BITS)) (sym c.in_ok-masks.ensures) (small_masks c.args.m.now c.args.p.now c.requires.numbering)
 
-the_system : (c : After-count-count) → IsSystemOf c.args.m.now c.args.p.now c.terms.new.s
+the_system : (c : After-count-count) → IsSystemOf c.args.m.now c.args.p.now c.terms-2.new.s
 the_system c =
-    answered c.args.m.now c.args.p.now c.requires.numbering c.in_ok-masks.field-0 c.in_ok-s.s c.terms.new.s c.count-count.ensures.system c.in_ok-masks.ensures
-    c.in_ok-s.ensures c.in_ok-terms.ensures
+    answered c.args.m.now c.args.p.now c.requires.numbering c.in_ok-masks.field-0 c.in_ok-s.s c.terms.new.s c.terms-2.new.s c.count-count.ensures.system
+    c.in_ok-masks.ensures c.in_ok-s.ensures c.in_ok-terms.ensures c.in_ok-terms-2.ensures
 
 pub returns-clause-system : goal.returns-clause-system
 returns-clause-system c = the_system c
 
 pub returns-clause-composed : goal.returns-clause-composed
-returns-clause-composed c = composed c.args.m.now c.args.p.now c.requires.numbering c.terms.new.s (the_system c)
+returns-clause-composed c = composed c.args.m.now c.args.p.now c.requires.numbering c.terms-2.new.s (the_system c)
 
 pub returns-clause-inputs : goal.returns-clause-inputs
-returns-clause-inputs c = inputs_named c.args.m.now c.args.p.now c.requires.numbering c.terms.new.s (the_system c)
+returns-clause-inputs c = inputs_named c.args.m.now c.args.p.now c.requires.numbering c.terms-2.new.s (the_system c)
 
 pub returns-clause-count : goal.returns-clause-count
-returns-clause-count c = inputs_counted c.args.m.now c.args.p.now c.requires.numbering c.terms.new.s (the_system c)
+returns-clause-count c = inputs_counted c.args.m.now c.args.p.now c.requires.numbering c.terms-2.new.s (the_system c)

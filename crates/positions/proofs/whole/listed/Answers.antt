@@ -1,9 +1,8 @@
-use Rattle.std.proofs.Common.{arith, ◌≡◌, ◌+◌, ◌-◌, ◌/◌, ◌++◌, suc, length, sym, ap, subst, ◌∙◌}
-use Rattle.facts.specs.Bodies.{body_count}
-use Rattle.positions.specs.Order.{up_to, body_at, value_at, entries_at, return_at, row_at, effect_at}
+use Rattle.std.proofs.Common.{arith, ◌+◌, ◌-◌, ◌/◌, ◌++◌, length, sym, ap, subst, ◌∙◌}
+use Rattle.positions.specs.Order.{up_to, body_at, value_at, entries_at, effect_at}
 use Rattle.positions.specs.Numbering.{starts, AreFound}
 use Rattle.positions.specs.declared.tables.Tables.{Tables}
-use Rattle.positions.proofs.Standing.{first_body, first_value, first_entry, first_return, first_row, first_effect}
+use Rattle.positions.proofs.Standing.{first_body, first_value, first_entry, first_return, first_row}
 use Rattle.positions.proofs.Tabled.{AreTables, all_found}
 use Rattle.positions.proofs.Together.{segments, total, first_list, longer_by, rows_list, all_listed}
 use Rattle.positions.proofs.whole.listed.Goals as goal

@@ -1,8 +1,8 @@
-use Rattle.std.proofs.Common.{arith, ◌≡◌, ◌<◌, ◌≤◌, ◌+◌, ◌-◌, ◌/◌, ℕ, true, Some, slice_get, length}
+use Rattle.std.proofs.Common.{arith, ◌<◌, ◌≤◌, ◌+◌, ◌-◌, ◌/◌, ℕ, length}
 use Rattle.std.proofs.lemmas.Option.{slice_get_within}
 use Rattle.facts.specs.declared.pos.Pos.TheVariants as pos
 use Rattle.positions.specs.Numbering.{IsEntryBefore}
-use Rattle.positions.proofs.Finding.{is_read, seen, shown, entries_long, entry_is, goes_right, goes_left}
+use Rattle.positions.proofs.Finding.{is_read, seen, entries_long, entry_is, goes_right, goes_left}
 use Rattle.positions.proofs.positions.Positions.entry.Goals as goal
 
 pub index-from-requires : goal.index-from-requires
