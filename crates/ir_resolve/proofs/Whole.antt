@@ -7,7 +7,7 @@ use Rattle.ir_tree.specs.declared.entities.Tree.{Tree}
 use Rattle.attr_ids.specs.declared.insertion.Span.{Span}
 use Rattle.ir_type_equality.specs.Numbers.{AreCanonical}
 use Rattle.ir_module.specs.declared.module.Module.{Module}
-use Rattle.ir_module.specs.WellFormed.{IsWellFormed}
+use Rattle.ir_module.specs.WellFormed.{HasFew}
 use Rattle.ir_scopes.specs.declared.faults.Cause.TheVariants as cause
 use Rattle.ir_scopes.specs.declared.faults.NameFault.{NameFault}
 use Rattle.ir_scopes.specs.Faults.{first_in}
@@ -123,9 +123,9 @@ module _ (b : List ℕ) (toks : List Token) (tree : Tree) where
   }
   resolved (Err e) h = tt
 
-  pub well_formed : (result : Result Module NameRefusal) → Answers result → IfOk result (λ m. IsWellFormed m)
-  well_formed (Ok m) h = h.2.2
-  well_formed (Err e) h = tt
+  pub few_things : (result : Result Module NameRefusal) → Answers result → IfOk result (λ m. HasFew m)
+  few_things (Ok m) h = h.2.2
+  few_things (Err e) h = tt
 
   pub unknown : (result : Result Module NameRefusal) → Answers result → (name : Span) → result ≡ Err (refusal.Unknown name) →
       (at : ℕ) × IsFirstFault b toks tree (fault cause.Unknown at) × (name ≡ span_at toks at)

@@ -5,7 +5,7 @@ use Rattle.ir_token.specs.declared.token.Token.{Token}
 use Rattle.ir_token.specs.Lists.{AreTokens}
 use Rattle.ir_type_equality.specs.Numbers.{AreCanonical}
 use Rattle.ir_module.specs.declared.module.Module.{Module}
-use Rattle.ir_module.specs.WellFormed.{IsWellFormed}
+use Rattle.ir_module.specs.WellFormed.{HasFew}
 use Rattle.ir_scopes.specs.declared.faults.Cause.TheVariants as cause
 use Rattle.ir_scopes.specs.declared.faults.NameFault.{NameFault}
 use Rattle.ir_scopes.specs.declared.top.Space.TheVariants.{Types}
@@ -17,9 +17,9 @@ use Rattle.ir_resolve.specs.Inputs as inputs
 use Rattle.ir_resolve.specs.Inputs.{named_in, types_in, setting_in}
 use Rattle.ir_resolve.specs.Modules.{module_with, inner_faults, fault, span_at, offset_at}
 
--- the answer is this module, which is well formed, where no fault was found, and else the fault
+-- the answer is this module, which has few things, where no fault was found, and else the fault
 abbrev pub Tells : List Token → Option NameFault → Module → Result Module NameRefusal → Type 0
-Tells toks found made (Ok m) = (found ≡ None) × (m ≡ made) × IsWellFormed m
+Tells toks found made (Ok m) = (found ≡ None) × (m ≡ made) × HasFew m
 Tells toks found made (Err (refusal.Unknown name)) = (at : ℕ) × (found ≡ Some (fault cause.Unknown at)) × (name ≡ span_at toks at)
 Tells toks found made (Err (refusal.Twice name)) = (at : ℕ) × (found ≡ Some (fault cause.Twice at)) × (name ≡ span_at toks at)
 Tells toks found made (Err (refusal.Layout offset)) = (at : ℕ) × (found ≡ Some (fault cause.Layout at)) × (offset ≡ offset_at toks at)

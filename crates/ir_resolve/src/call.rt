@@ -5,7 +5,7 @@ ghost use Rattle.attr_ids.specs.declared.insertion.Span.{Span as TheSpan};
 ghost use Rattle.ir_token.specs.declared.TheConstants.{MAX_TOKENS};
 ghost use Rattle.ir_token.specs.Lists.{AreTokens};
 ghost use Rattle.ir_type_equality.specs.Numbers.{AreCanonical};
-ghost use Rattle.ir_module.specs.WellFormed.{IsWellFormed};
+ghost use Rattle.ir_module.specs.WellFormed.{HasFew};
 ghost use Rattle.ir_scopes.specs.declared.faults.Cause.TheVariants as cause;
 ghost use Rattle.ir_scopes.specs.Faults.{first_in};
 ghost use Rattle.ir_type_names.specs.Numbers.{table_of};
@@ -25,7 +25,7 @@ use crate::top::{Top, type_source, voids_of};
 use attr_ids::{NoMemory, Offsets, Sequence};
 use ir_attrs::groups;
 use ir_consts::Laid;
-use ir_module::{Module, Operands, is_well_formed};
+use ir_module::{Module, Operands, has_few};
 use ir_names::name_ids;
 use ir_scopes::{NameFault, Space, top_scope};
 use ir_token::Token;
@@ -91,7 +91,7 @@ fn finished(
         parts: parts_of(builder.notes),
         type_at: places,
     };
-    if is_well_formed(&module) {
+    if has_few(&module) {
         Ok(module)
     } else {
         Err(NameRefusal::NoMemory)
@@ -158,7 +158,7 @@ pub fn resolve(
     requires tokens { AreTokens text.now toks.now }
     requires few { length toks.now ≤ MAX_TOKENS }
     ensures resolved { IfOk result (λ m. Resolved text.now toks.now tree.now m) }
-    ensures well_formed { IfOk result (λ m. IsWellFormed m) }
+    ensures few_things { IfOk result (λ m. HasFew m) }
     ensures unknown { (name : TheSpan) → result ≡ Err (refusal.Unknown name) →
         (at : ℕ) × IsFirstFault text.now toks.now tree.now (fault cause.Unknown at) × (name ≡ span_at toks.now at) }
     ensures twice { (name : TheSpan) → result ≡ Err (refusal.Twice name) →

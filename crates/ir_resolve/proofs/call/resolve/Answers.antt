@@ -1,6 +1,6 @@
 use Rattle.std.proofs.Common.{◌∙◌, nat_eq}
 use Rattle.indexmap.specs.IndexMap.{get}
-use Rattle.ir_resolve.proofs.Whole.{top_done, resolved, well_formed, unknown, twice, layout}
+use Rattle.ir_resolve.proofs.Whole.{top_done, resolved, few_things, unknown, twice, layout}
 use Rattle.ir_resolve.proofs.call.resolve.Goals as goal
 
 pub returns : goal.returns
@@ -15,7 +15,7 @@ returns c =
     c.in_ok-types.ensures.found c.in_ok-groups.ensures.found c.in_ok-symbols.ensures.found c.typed.ensures in
     record {
       resolved = resolved b toks tree result told;
-      well_formed = well_formed b toks tree result told;
+      few_things = few_things b toks tree result told;
       unknown = unknown b toks tree result told;
       twice = twice b toks tree result told;
       layout = layout b toks tree result told;
