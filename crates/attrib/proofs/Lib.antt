@@ -1,7 +1,5 @@
-pub mod Built
-pub mod Composed
-pub mod Terms
-pub mod Once
-pub mod Facts
-pub mod Same
-pub mod Edges
+pub mod Fit
+pub mod Holding
+pub mod Joining
+pub mod Refused
+pub mod Stopped

@@ -1,10 +1,13 @@
 -- What a run of the program reads and writes.
-use Rattle.std.specs.Prelude.{◌≡◌, ◌≢◌, ◌≤◌, ◌⊎◌, ℕ, List, [], length, codes, Option, Some, None}
+use Rattle.std.specs.Prelude.{◌≡◌, ◌≢◌, ◌⊎◌, ℕ, List, [], codes, Option, Some, None}
 use Rattle.attr_ids.specs.declared.status.Status.{Status}
 use Rattle.attr_ids.specs.declared.status.Status.TheVariants as status
 use Rattle.attr_io.specs.Outside.{Rose, Stream, Wrote}
 use Rattle.attr_io.specs.Transfer.{IsWhole, GaveExactly, WrotePart}
-use Rattle.attrib.specs.Annotated.{InSlice, IsAnnotated}
+use Rattle.accept.specs.declared.refusal.Refusal.{Refusal}
+use Rattle.accept.specs.Causes.{IsCause}
+use Rattle.attrib.specs.Annotated.{IsAccepted, IsAnnotated}
+use Rattle.attrib.specs.Lines.{IsLine}
 
 abbrev pub usage_line : List ℕ
 usage_line = codes "usage: attrib\n"
@@ -17,9 +20,6 @@ write_line = codes "attrib: write failed\n"
 
 abbrev pub memory_line : List ℕ
 memory_line = codes "attrib: out of memory\n"
-
-abbrev pub slice_line : List ℕ
-slice_line = codes "attrib: not built yet\n"
 
 abbrev pub bytes_line : List ℕ
 bytes_line = codes "attrib: too large: Bytes 67108865\n"
@@ -58,9 +58,13 @@ IsPrinted source source' text = (b : List ℕ) × IsWhole source source' b × Is
 abbrev pub Prints : Stream → Stream → Stream → Stream → Type 0
 Prints source source' out out' = (text : List ℕ) × IsPrinted source source' text × Wrote out out' text
 
--- reading came to the end, and what was read is outside the slice
-abbrev pub ReadOutside : Stream → Stream → Type 0
-ReadOutside source source' = (b : List ℕ) × IsWhole source source' b × (length b ≤ 67108864) × (InSlice b → ⊥)
+-- the text is refused by a cause that has this line
+abbrev pub RefusesWith : List ℕ → List ℕ → Type 0
+RefusesWith b line = (why : Refusal) × IsCause b why × IsLine b why line
+
+-- reading came to the end, and what was read is refused with this line
+abbrev pub ReadRefused : Stream → Stream → List ℕ → Type 0
+ReadRefused source source' line = (b : List ℕ) × IsWhole source source' b × RefusesWith b line
 
 -- one byte more was read than a text may have
 abbrev pub ReadTooMuch : Stream → Stream → Type 0
@@ -68,22 +72,22 @@ ReadTooMuch source source' = GaveExactly source source' 67108865
 
 -- the line of what was read that is refused
 abbrev pub IsRefusedBy : Stream → Stream → List ℕ → Type 0
-IsRefusedBy source source' line = (ReadOutside source source' × (line ≡ slice_line)) ⊎ (ReadTooMuch source source' × (line ≡ bytes_line))
+IsRefusedBy source source' line = ReadRefused source source' line ⊎ (ReadTooMuch source source' × (line ≡ bytes_line))
 
 -- the line of a cause other than want of memory and a fault of writing: words on the command line, a fault of reading, what was read
 abbrev pub IsCausedBy : {W : Type 0} → List W → Stream → Stream → List ℕ → Type 0
 IsCausedBy words source source' line =
     ((words ≢ []) × (line ≡ usage_line)) ⊎ ((Rose source source' × (line ≡ read_line)) ⊎ IsRefusedBy source source' line)
 
--- the bytes that a source tells are in the slice
-abbrev pub TellsSlice : Option (List ℕ) → Type 0
-TellsSlice None = ⊥
-TellsSlice (Some b) = InSlice b
+-- the bytes that a source tells are accepted
+abbrev pub TellsAccepted : Option (List ℕ) → Type 0
+TellsAccepted None = ⊥
+TellsAccepted (Some b) = IsAccepted b
 
--- the bytes that a source tells are outside it, or too many
+-- the bytes that a source tells are not
 abbrev pub TellsOther : Option (List ℕ) → Type 0
 TellsOther None = ⊥
-TellsOther (Some b) = InSlice b → ⊥
+TellsOther (Some b) = IsAccepted b → ⊥
 
 -- ---- the status WriteFault
 

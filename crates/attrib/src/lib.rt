@@ -5,8 +5,11 @@
 #![tactic(auto)]
 
 mod annotation;
-mod deduce;
+mod lines;
+mod offsets;
+mod places;
 mod run;
 
-pub use annotation::{Annotated, Emit, Limit, Refusal, annotate, one_annotation};
+pub use accept::{Limit, Refusal};
+pub use annotation::{Annotated, Emit, annotate};
 pub use run::attrib;

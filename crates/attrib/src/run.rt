@@ -1,12 +1,17 @@
 ghost use Rattle.std.specs.Prelude.{◌≡◌, ◌≢◌, ◌⊎◌, ◌<◌, ◌≤◌, [], ℕ, List, length};
 ghost use Rattle.attr_io.specs.Outside.{Rose, Wrote};
 ghost use Rattle.attr_io.specs.Transfer.{GaveAtMost, WrotePart};
-ghost use Rattle.attrib.specs.Annotated.{InSlice, IsAnnotated};
+ghost use Rattle.accept.specs.Causes.{IsCause};
+ghost use Rattle.accept.specs.declared.refusal.Refusal.{Refusal as TheRefusal};
+ghost use Rattle.attrib.specs.Annotated.{IsAccepted, IsAnnotated};
 ghost use Rattle.attrib.specs.Run as spec;
 
-use crate::annotation::{Emit, MOST_BYTES, Refusal, annotate};
+use crate::annotation::{Emit, annotate};
+use crate::lines::refusal_line;
+use accept::Refusal;
 use attr_ids::Status;
 use attr_io::{Gate, ReadStop, Sink, Source, WriteEnd, read_all, write_all};
+use ir_token::MAX_BYTES;
 use std::alloc::Global;
 use std::thread::Threads;
 
@@ -59,6 +64,22 @@ fn print<O: Sink, E: Sink>(out: &mut O, errs: &mut E, text: &[u8]) -> Status
     }
 }
 
+/// Writes the line of a refusal of this text.
+fn refuse<E: Sink>(alloc: Global, text: &[u8], refusal: &Refusal, errs: &mut E) -> Status
+    requires small { length text.now ≤ 67108864 }
+    requires cause { IsCause text.now refusal.now }
+    ensures refused { result ≡ Status.Refused → (line : List ℕ) × spec.RefusesWith text.now line × Wrote (E.stream errs.old) (E.stream errs.new) line }
+    ensures memory { result ≡ Status.NoMemory → spec.Says (E.stream errs.old) (E.stream errs.new) spec.memory_line }
+    ensures fault { result ≡ Status.WriteFault → spec.FailsToSay (spec.RefusesWith text.now) (E.stream errs.old) (E.stream errs.new) }
+    ensures others { (result ≢ Status.Done) × (result ≢ Status.Usage) × (result ≢ Status.ReadFault) }
+    ensures complete { ¬ Rose (E.stream errs.old) (E.stream errs.new) → (result ≡ Status.Refused) ⊎ (result ≡ Status.NoMemory) }
+{
+    match refusal_line(alloc, text, refusal) {
+        Ok(line) => end_with(errs, line.as_slice(), Status::Refused),
+        Err(_) => end_with(errs, b"attrib: out of memory\n", Status::NoMemory),
+    }
+}
+
 /// Annotates what was read, and writes it or why not.
 fn answer<R: Threads + Sync, O: Sink, E: Sink, G: Gate + Sync>(
     rt: &R,
@@ -72,20 +93,18 @@ fn answer<R: Threads + Sync, O: Sink, E: Sink, G: Gate + Sync>(
     ensures done { result ≡ Status.Done → ((bytes : List ℕ) × IsAnnotated text.now bytes × Wrote (O.stream out.old) (O.stream out.new) bytes)
         × (errs.new ≡ errs.old) }
     ensures untouched { result ≢ Status.Done → result ≢ Status.WriteFault → out.new ≡ out.old }
-    ensures refused { result ≡ Status.Refused → (InSlice text.now → ⊥) × Wrote (E.stream errs.old) (E.stream errs.new) spec.slice_line }
+    ensures refused { result ≡ Status.Refused → (line : List ℕ) × spec.RefusesWith text.now line × Wrote (E.stream errs.old) (E.stream errs.new) line }
     ensures memory { result ≡ Status.NoMemory → spec.Says (E.stream errs.old) (E.stream errs.new) spec.memory_line }
     ensures fault { result ≡ Status.WriteFault
         → spec.FailsToPrint (IsAnnotated text.now) (O.stream out.old) (O.stream out.new) (E.stream errs.old) (E.stream errs.new)
-        ⊎ ((out.new ≡ out.old) × spec.FailsToSay (λ line. (InSlice text.now → ⊥) × (line ≡ spec.slice_line)) (E.stream errs.old) (E.stream errs.new)) }
+        ⊎ ((out.new ≡ out.old) × spec.FailsToSay (spec.RefusesWith text.now) (E.stream errs.old) (E.stream errs.new)) }
     ensures others { (result ≢ Status.Usage) × (result ≢ Status.ReadFault) }
-    ensures accepted { InSlice text.now → ¬ Rose (O.stream out.old) (O.stream out.new) → (result ≡ Status.Done) ⊎ (result ≡ Status.NoMemory) }
-    ensures outside { (InSlice text.now → ⊥) → ¬ Rose (E.stream errs.old) (E.stream errs.new) → (result ≡ Status.Refused) ⊎ (result ≡ Status.NoMemory) }
+    ensures accepted { IsAccepted text.now → ¬ Rose (O.stream out.old) (O.stream out.new) → (result ≡ Status.Done) ⊎ (result ≡ Status.NoMemory) }
+    ensures outside { (IsAccepted text.now → ⊥) → ¬ Rose (E.stream errs.old) (E.stream errs.new) → (result ≡ Status.Refused) ⊎ (result ≡ Status.NoMemory) }
 {
     match annotate(rt, alloc, text, WORKERS, Emit::Module, gate) {
         Ok(annotated) => print(out, errs, annotated.bytes.as_slice()),
-        Err(Refusal::Slice) => end_with(errs, b"attrib: not built yet\n", Status::Refused),
-        Err(Refusal::TooLarge { .. }) => unreachable!(),
-        Err(Refusal::NoMemory) => end_with(errs, b"attrib: out of memory\n", Status::NoMemory),
+        Err(refusal) => refuse(alloc, text, &refusal, errs),
     }
 }
 
@@ -123,7 +142,7 @@ pub fn attrib<R: Threads + Sync, S: Source, O: Sink, E: Sink, G: Gate + Sync>(
 
     // Which status comes where no fault does.
     ensures asked { words.now ≢ [] → ¬ Rose (E.stream errs.old) (E.stream errs.new) → result ≡ Status.Usage }
-    ensures accepted { words.now ≡ [] → spec.TellsSlice (S.stream source.old).bytes → ¬ Rose (S.stream source.old) (S.stream source.new)
+    ensures accepted { words.now ≡ [] → spec.TellsAccepted (S.stream source.old).bytes → ¬ Rose (S.stream source.old) (S.stream source.new)
         → ¬ Rose (O.stream out.old) (O.stream out.new) → (result ≡ Status.Done) ⊎ (result ≡ Status.NoMemory) }
     ensures outside { words.now ≡ [] → spec.TellsOther (S.stream source.old).bytes → ¬ Rose (S.stream source.old) (S.stream source.new)
         → ¬ Rose (E.stream errs.old) (E.stream errs.new) → (result ≡ Status.Refused) ⊎ (result ≡ Status.NoMemory) }
@@ -131,7 +150,7 @@ pub fn attrib<R: Threads + Sync, S: Source, O: Sink, E: Sink, G: Gate + Sync>(
     if !words.is_empty() {
         return end_with(errs, USAGE, Status::Usage);
     }
-    match read_all(alloc, source, MOST_BYTES) {
+    match read_all(alloc, source, MAX_BYTES) {
         Ok(text) => answer(rt, alloc, text.as_slice(), out, errs, gate),
         Err(stop) => end_reading(errs, stop),
     }

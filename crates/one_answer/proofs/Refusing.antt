@@ -67,7 +67,7 @@ module _ (b : List ℕ) (m : Module) (ok : Accepted b m) where
   same_tree : (t : Tree) → Fits b t toks → t ≡ tree
   same_tree t h = one_tree (terminals b toks) t tree h is.parsed.fits
 
-  same_module : (n : Module) → IsModuleOf b n → n ≡ m
+  pub same_module : (n : Module) → IsModuleOf b n → n ≡ m
   same_module n h =
       let ts : h.0 ≡ toks = same_tokens h.0 h.2.parsed.read.tokens.tokens in
       let t : h.1 ≡ tree = same_tree h.1 (subst (λ us. Fits b h.1 us) ts h.2.parsed.fits) in

@@ -65,7 +65,7 @@ pub fn bytes(alloc: Global, field: &str) -> Result<Vec<u8>, AllocError> {
 }
 
 /// How many bytes are printed as they are.
-const SHOWN: usize = 1000;
+const SHOWN: usize = 4096;
 
 /// Bytes as a field has them.
 pub fn shown(alloc: Global, bytes: &[u8]) -> Result<String, AllocError> {

@@ -39,8 +39,6 @@ fn stream_row<R: Print + Files>(rt: &R, alloc: Global, kind: &str, row: Fields) 
 fn text_row<R: Print + Files>(rt: &R, alloc: Global, kind: &str, row: Fields) -> io::Result<()> {
     match kind {
         "weave" => weaving::weave_row(rt, alloc, row),
-        "module" => texts::module(rt, alloc, row),
-        "insertions" => texts::added(rt, alloc, row),
         _ => stream_row(rt, alloc, kind, row),
     }
 }
@@ -51,8 +49,8 @@ fn row<R: Print + Files + Threads + Sync>(rt: &R, alloc: Global, line: &str) -> 
     let kind = row.next_field();
     match kind {
         "annotate" => texts::annotated(rt, alloc, row),
+        "text" => runs::text(rt, alloc, row),
         "run" => runs::run(rt, alloc, row),
-        "sure run" => runs::sure(rt, alloc, row),
         "each read" => runs::each_read(rt, alloc, row),
         "each room" => runs::each_room(rt, alloc, row),
         "meet" => meetings::meet(rt, alloc, row),

@@ -10,32 +10,29 @@ use std::io;
 use std::sync::atomic::{AtomicBool, AtomicU64, Ordering};
 use std::thread::Threads;
 
-/// Functions of which each calls the next one, and the last one the first, with a word at headers and calls.
-fn ring(alloc: Global, functions: usize, word: &str) -> Result<Text, AllocError> {
+/// Functions of which each calls the next one, and the last one this one, with a word at headers and calls.
+fn calls(alloc: Global, functions: usize, last: usize, word: &str) -> Result<String, AllocError> {
     let mut text = String::new(alloc);
     for i in 0..functions {
-        let next = if i + 1 == functions { 0 } else { i + 1 };
+        let next = if i + 1 == functions { last } else { i + 1 };
         let function = format!(in alloc;
             "define void @f{i}(){word} {{ call void @f{next}(){word} ret void }}"
         )?;
         text.push_str(&function)?;
     }
-    Ok(Text::from_vec(text.into_bytes()))
+    Ok(text)
 }
 
-/// Functions of which each calls the next one, and the last one something unknown. No fact stays: each that
-/// falls is told to the function before it.
+/// Functions of which the last one calls the first. Each fact stays.
+fn ring(alloc: Global, functions: usize, word: &str) -> Result<Text, AllocError> {
+    Ok(Text::from_vec(calls(alloc, functions, 0, word)?.into_bytes()))
+}
+
+/// Functions of which the last one calls something unknown. No fact stays: each that falls is told to the
+/// function before it.
 fn chain(alloc: Global, functions: usize) -> Result<Text, AllocError> {
-    let mut text = String::new(alloc);
-    for i in 0..functions {
-        let function = format!(in alloc;
-            "define void @f{i}() {{ call void @f{}() ret void }}",
-            i + 1
-        )?;
-        text.push_str(&function)?;
-    }
-    let unknown = format!(in alloc; "declare void @f{functions}()")?;
-    text.push_str(&unknown)?;
+    let mut text = calls(alloc, functions, functions, "")?;
+    text.push_str(format!(in alloc; "declare void @f{functions}()")?.as_str())?;
     Ok(Text::from_vec(text.into_bytes()))
 }
 

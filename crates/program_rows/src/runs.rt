@@ -1,7 +1,7 @@
 use crate::fields::{Fields, shown};
 use crate::texts::OpenGate;
 use attr_ids::{Numbers, Status, Text};
-use attr_io::{MemSink, MemSource, Source, SureSink, SureSource};
+use attr_io::{MemSink, MemSource, Source};
 use attrib::attrib;
 use std::alloc::{AllocError, Global};
 use std::io;
@@ -67,15 +67,6 @@ pub fn run<R: Print + Threads + Sync>(rt: &R, alloc: Global, mut row: Fields) ->
     print_ran(rt, alloc, &ran)
 }
 
-/// `sure run|TEXT`: from a source that never fails to a sink that keeps nothing; the status and the line.
-pub fn sure<R: Print + Threads + Sync>(rt: &R, alloc: Global, mut row: Fields) -> io::Result<()> {
-    let mut source = SureSource::new(row.text(alloc)?);
-    let mut errs = MemSink::new(room(alloc, ROOM)?, Numbers::new(alloc));
-    let mut out = SureSink::new();
-    let status = attrib(rt, alloc, &[], &mut source, &mut out, &mut errs, &OpenGate);
-    println!(rt; "{}|{}", status.code(), shown(alloc, errs.held())?)
-}
-
 /// One run of a text from a source of such pieces that fails at one call, into so much room.
 fn one_run<R: Threads + Sync>(
     rt: &R,
@@ -91,6 +82,15 @@ fn one_run<R: Threads + Sync>(
     let out = MemSink::new(room(alloc, bytes)?, Numbers::new(alloc));
     let errs = MemSink::new(room(alloc, ROOM)?, Numbers::new(alloc));
     Ok(run_on(rt, alloc, &[], &mut source, out, errs))
+}
+
+/// `text|NAME|TEXT`: the name, and what a run without words leaves.
+pub fn text<R: Print + Threads + Sync>(rt: &R, alloc: Global, mut row: Fields) -> io::Result<()> {
+    let name = row.next_field();
+    let text = row.next_field();
+    let ran = one_run(rt, alloc, text, ROOM, 0, ROOM)?;
+    print!(rt; "{name}|")?;
+    print_ran(rt, alloc, &ran)
 }
 
 /// `each read|PIECE|COUNT|TEXT`: a run for each call from 1 to COUNT, with a fault at that call.

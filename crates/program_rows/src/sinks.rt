@@ -34,11 +34,9 @@ fn calls<O: Sink>(rt: &impl Print, alloc: Global, sink: &mut O, words: &str) -> 
 }
 
 fn spaced(alloc: Global, text: &str) -> Result<Vec<u8>, AllocError> {
-    let mut bytes = Vec::from_slice(alloc, text.as_bytes())?;
-    for byte in bytes.iter_mut() {
-        if *byte == b'_' {
-            *byte = b' ';
-        }
+    let mut bytes = Vec::new(alloc);
+    for byte in text.as_bytes() {
+        bytes.push(if *byte == b'_' { b' ' } else { *byte })?;
     }
     Ok(bytes)
 }

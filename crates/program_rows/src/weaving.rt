@@ -22,18 +22,16 @@ fn is_fit(text: &[u8], insertions: &[Insertion]) -> bool
     true
 }
 
+/// A place before which words stand, or one behind which they do.
 fn place_of(word: &str) -> Place {
-    match word {
-        "Return" => Place::Return,
-        "Parameter" => Place::Parameter,
-        "Call" => Place::Call,
-        "CallReturn" => Place::CallReturn,
-        "Argument" => Place::Argument,
-        _ => Place::Function,
+    if word == "before" {
+        Place::Return
+    } else {
+        Place::Function
     }
 }
 
-/// The insertions of a field, as `28 Function nounwind, 62 Call nounwind`.
+/// The insertions of a field, as `7 before nonnull, 62 behind nounwind`.
 fn table(alloc: Global, field: &str) -> io::Result<Insertions> {
     let mut insertions = Vec::new(alloc);
     for entry in field.split(", ") {

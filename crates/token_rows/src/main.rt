@@ -6,8 +6,6 @@
 //! - `nesting ( [ ) ]`: the greatest number of brackets that are open at once.
 //! - `repeat 257 {`: how many tokens the text has that stands there so many times, and their nesting.
 //! - `prefixes %0 = x`: how many prefixes the text has, and whether each is answered within it.
-//! - `slice declare void @f()`: the same as `tokens`, of the scanner of the slice.
-//! - `entities declare void @f()`: the entities of a text of the slice.
 //! - `size`: how many bytes a token takes.
 //!
 //! In a text `\n`, `\r`, `\t`, `\\` and `\xHH` stand for a byte. An empty line, and one that begins with
@@ -16,7 +14,6 @@
 
 mod profile;
 mod row;
-mod slice;
 
 use std::alloc::{AllocError, Global};
 use std::io;
@@ -28,8 +25,6 @@ fn answer(alloc: Global, command: &str, text: &str) -> Result<String, AllocError
         "nesting" => profile::nesting_of(alloc, row::unescaped(alloc, text)?.as_slice()),
         "repeat" => profile::counts_of(alloc, row::repeated(alloc, text)?.as_slice()),
         "prefixes" => profile::prefixes_of(alloc, row::unescaped(alloc, text)?.as_slice()),
-        "slice" => slice::tokens_of(alloc, row::unescaped(alloc, text)?.as_slice()),
-        "entities" => slice::entities_of(alloc, row::unescaped(alloc, text)?.as_slice()),
         "size" => profile::size_of_a_token(alloc),
         _ => String::from_str(alloc, "no row"),
     }

@@ -1,8 +1,0 @@
-use Rattle.slice_facts.proofs.Rising.{in_order, within}
-use Rattle.slice_facts.proofs.printed.offsets_rise.Goals as goal
-
-pub returns-clause-rise : goal.returns-clause-rise
-returns-clause-rise c = in_order
-
-pub returns-clause-within : goal.returns-clause-within
-returns-clause-within c = within

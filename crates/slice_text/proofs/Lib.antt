@@ -1,9 +1,0 @@
-pub mod Pieces
-pub mod Stand
-pub mod Chain
-pub mod Leaves
-pub mod Parts
-pub mod Calls
-pub mod Written
-pub mod Same
-pub mod Places
