@@ -9,14 +9,13 @@ use Rattle.facts.specs.Bodies.{param_count}
 use Rattle.facts.specs.Masks.{mask_of}
 use Rattle.rule_terms.specs.Greatest as rule
 use Rattle.rule_says.specs.Reading.{facts_in}
-use Rattle.manifest.specs.Additions.{insertions_of}
 use Rattle.soundness.proofs.Sound.{sound}
 use Rattle.printed_soundness.proofs.Printed.{printed}
-use Rattle.weave.specs.Woven.{Woven}
 use Rattle.accept.specs.Limits.{KeepsLimits}
 use Rattle.accept.specs.declared.reading.Ready.{Ready}
 use Rattle.accept.specs.Ready.{IsReady}
-use Rattle.attrib.specs.Annotated.{IsAnnotated}
+use Rattle.command_line.specs.declared.asked.Emit.{Emit}
+use Rattle.attrib.specs.Annotated.{IsAnnotated, IsShown}
 
 -- a module within the limits has at most 255 parameters in each function
 pub few_params : (m : Module) → KeepsLimits m → (f : ℕ) → param_count m f < 256
@@ -32,9 +31,9 @@ module _ (b : List ℕ) (r : Ready) (ready : IsReady b r) (words : List ℕ) (be
   pub a_word_each : length words ≡ length r.positions.list
   a_word_each = best.is_one.long ∙ (ap length ready.system.masks ∙ (ap length ready.listed.masks ∙ length-map r.positions.list (mask_of r.module)))
 
-  -- what is put in for these words makes the annotated text
-  pub is_annotated : (out : List ℕ) → Woven b (insertions_of r.module (facts_in r.positions (slice_index words))) out → IsAnnotated b out
-  is_annotated out woven =
+  -- what is shown of these words is what is printed
+  pub is_annotated : (form : Emit) (out : List ℕ) → IsShown form b r.module (facts_in r.positions (slice_index words)) out → IsAnnotated form b out
+  is_annotated form out shown =
       let held = facts_in r.positions (slice_index words) in
       let greatest = ready.composed words best in
       record {
@@ -42,7 +41,7 @@ module _ (b : List ℕ) (r : Ready) (ready : IsReady b r) (words : List ℕ) (be
         accepted = ready.accepted;
         held = held;
         greatest = greatest;
-        woven = woven;
+        shown = shown;
         holds = sound r.module ready.formed held greatest.is_one;
         printed = printed r.module ready.formed held greatest.is_one;
       }

@@ -1,16 +1,16 @@
 -- What a run of the program reads and writes.
-use Rattle.std.specs.Prelude.{◌≡◌, ◌≢◌, ◌⊎◌, ℕ, List, [], codes, Option, Some, None}
+use Rattle.std.specs.Prelude.{◌≡◌, ◌⊎◌, ℕ, List, codes, Option, Some, None}
 use Rattle.attr_ids.specs.declared.status.Status.{Status}
 use Rattle.attr_ids.specs.declared.status.Status.TheVariants as status
 use Rattle.attr_io.specs.Outside.{Rose, Stream, Wrote}
 use Rattle.attr_io.specs.Transfer.{IsWhole, GaveExactly, WrotePart}
+use Rattle.attr_make.specs.Made.{made}
+use Rattle.command_line.specs.declared.asked.Asked.{Asked}
+use Rattle.command_line.specs.Command.{IsAsked, IsRefused, usage_line}
 use Rattle.accept.specs.declared.refusal.Refusal.{Refusal}
 use Rattle.accept.specs.Causes.{IsCause}
-use Rattle.attrib.specs.Annotated.{IsAccepted, IsAnnotated}
+use Rattle.attrib.specs.Annotated.{IsAnnotated}
 use Rattle.attrib.specs.Lines.{IsLine}
-
-abbrev pub usage_line : List ℕ
-usage_line = codes "usage: attrib\n"
 
 abbrev pub read_line : List ℕ
 read_line = codes "attrib: read failed\n"
@@ -50,44 +50,57 @@ EndsWith wanted line answered old new =
 
 -- ---- what is read and printed
 
--- the one text that is printed for what was read to its end
-abbrev pub IsPrinted : Stream → Stream → List ℕ → Type 0
-IsPrinted source source' text = (b : List ℕ) × IsWhole source source' b × IsAnnotated b text
+-- the text that a run is about: all that the source gave to its end, or a module that is made, for which nothing is read
+abbrev pub IsInput : Option ℕ → Stream → Stream → List ℕ → Type 0
+IsInput None source source' b = IsWhole source source' b
+IsInput (Some count) source source' b = (source' ≡ source) × (b ≡ made count)
 
--- reading came to the end, and exactly the one text that is printed for what was read is out
-abbrev pub Prints : Stream → Stream → Stream → Stream → Type 0
-Prints source source' out out' = (text : List ℕ) × IsPrinted source source' text × Wrote out out' text
+-- the one text that is printed where this is asked
+abbrev pub IsPrinted : Asked → Stream → Stream → List ℕ → Type 0
+IsPrinted asked source source' text = (b : List ℕ) × IsInput asked.generate source source' b × IsAnnotated asked.emit b text
+
+-- the one text that is printed for these words
+abbrev pub IsOutput : List (List ℕ) → Stream → Stream → List ℕ → Type 0
+IsOutput words source source' text = (asked : Asked) × IsAsked words asked × IsPrinted asked source source' text
+
+-- exactly the one text that is printed for these words and for what was read is out
+abbrev pub Prints : List (List ℕ) → Stream → Stream → Stream → Stream → Type 0
+Prints words source source' out out' = (text : List ℕ) × IsOutput words source source' text × Wrote out out' text
 
 -- the text is refused by a cause that has this line
 abbrev pub RefusesWith : List ℕ → List ℕ → Type 0
 RefusesWith b line = (why : Refusal) × IsCause b why × IsLine b why line
 
--- reading came to the end, and what was read is refused with this line
-abbrev pub ReadRefused : Stream → Stream → List ℕ → Type 0
-ReadRefused source source' line = (b : List ℕ) × IsWhole source source' b × RefusesWith b line
+-- the text of the run is refused with this line
+abbrev pub ReadRefused : Option ℕ → Stream → Stream → List ℕ → Type 0
+ReadRefused generate source source' line = (b : List ℕ) × IsInput generate source source' b × RefusesWith b line
 
 -- one byte more was read than a text may have
-abbrev pub ReadTooMuch : Stream → Stream → Type 0
-ReadTooMuch source source' = GaveExactly source source' 67108865
+abbrev pub ReadTooMuch : Option ℕ → Stream → Stream → Type 0
+ReadTooMuch generate source source' = (generate ≡ None) × GaveExactly source source' 67108865
 
--- the line of what was read that is refused
-abbrev pub IsRefusedBy : Stream → Stream → List ℕ → Type 0
-IsRefusedBy source source' line = ReadRefused source source' line ⊎ (ReadTooMuch source source' × (line ≡ bytes_line))
+-- the line for a text of a run that is refused
+abbrev pub IsTextLine : Option ℕ → Stream → Stream → List ℕ → Type 0
+IsTextLine generate source source' line = ReadRefused generate source source' line ⊎ (ReadTooMuch generate source source' × (line ≡ bytes_line))
 
--- the line of a cause other than want of memory and a fault of writing: words on the command line, a fault of reading, what was read
-abbrev pub IsCausedBy : {W : Type 0} → List W → Stream → Stream → List ℕ → Type 0
+-- the line of a cause other than want of memory and a fault of writing, where words are taken: a fault of reading, or the text
+abbrev pub IsRunLine : Option ℕ → Stream → Stream → List ℕ → Type 0
+IsRunLine generate source source' line = (Rose source source' × (line ≡ read_line)) ⊎ IsTextLine generate source source' line
+
+-- the line for a text that is refused, where these words are taken
+abbrev pub IsRefusedBy : List (List ℕ) → Stream → Stream → List ℕ → Type 0
+IsRefusedBy words source source' line = (asked : Asked) × IsAsked words asked × IsTextLine asked.generate source source' line
+
+-- the line of a cause other than want of memory and a fault of writing: words that are no command, a fault of reading, what was read
+abbrev pub IsCausedBy : List (List ℕ) → Stream → Stream → List ℕ → Type 0
 IsCausedBy words source source' line =
-    ((words ≢ []) × (line ≡ usage_line)) ⊎ ((Rose source source' × (line ≡ read_line)) ⊎ IsRefusedBy source source' line)
+    (IsRefused words × (line ≡ usage_line)) ⊎ ((Rose source source' × (line ≡ read_line)) ⊎ IsRefusedBy words source source' line)
 
--- the bytes that a source tells are accepted
-abbrev pub TellsAccepted : Option (List ℕ) → Type 0
-TellsAccepted None = ⊥
-TellsAccepted (Some b) = IsAccepted b
-
--- the bytes that a source tells are not
-abbrev pub TellsOther : Option (List ℕ) → Type 0
-TellsOther None = ⊥
-TellsOther (Some b) = IsAccepted b → ⊥
+-- the text of the run, where the source tells it or it is made, is of this kind
+abbrev pub TellsText : Option ℕ → Option (List ℕ) → (List ℕ → Type 0) → Type 0
+TellsText (Some count) bytes IsOne = IsOne (made count)
+TellsText None None IsOne = ⊥
+TellsText None (Some b) IsOne = IsOne b
 
 -- ---- the status WriteFault
 

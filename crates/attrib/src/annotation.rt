@@ -1,15 +1,20 @@
-ghost use Rattle.std.specs.Prelude.{◌≡◌, ◌≤◌, ◌⊎◌, IsOk, IfOk, IfErr};
+ghost use Rattle.std.specs.Prelude.{◌≡◌, ◌≤◌, ◌⊎◌, IsOk, IfOk, IfErr, slice_index};
 ghost use Rattle.rule_terms.specs.Greatest as rule;
 ghost use Rattle.dep_graph.specs.Graph.{IsGraphOf};
 ghost use Rattle.accept.specs.Causes.{IsCause};
 ghost use Rattle.accept.specs.Ready.{IsReady};
-ghost use Rattle.attrib.specs.Annotated.{IsAccepted, IsAnnotated};
+ghost use Rattle.rule_says.specs.Reading.{facts_in};
+ghost use Rattle.manifest.specs.Additions.{insertions_of};
+ghost use Rattle.weave.specs.Woven.{Woven};
+ghost use Rattle.attrib.specs.Annotated.{IsAccepted, IsAnnotated, IsShown};
 
 use crate::offsets::stand_within;
 use accept::{Ready, Refusal, read};
-use attr_ids::{NoMemory, Text, WordList};
+use attr_ids::{Insertions, NoMemory, Text, WordList};
 use attr_io::Gate;
+use attr_list::{list, summary};
 use closing_pass::close;
+use command_line::Emit;
 use dep_graph::{DepGraph, budget};
 use manifest::insertions;
 use rule_terms::System;
@@ -18,14 +23,7 @@ use std::thread::Threads;
 use weave::weave;
 use workers::run_all;
 
-/// What is printed.
-#[derive(Clone, Copy)]
-pub enum Emit {
-    /// The module with the words added.
-    Module,
-}
-
-/// A text with the words added.
+/// What is printed for a text.
 #[derive(Drop)]
 pub struct Annotated {
     pub bytes: Text,
@@ -51,41 +49,76 @@ fn greatest<R: Threads + Sync, G: Gate + Sync>(
     Ok(close(system, ran.words, &ran.ends))
 }
 
-/// The text with what is added for these words. Where the places of what is added do not rise within the
-/// text, it answers that no memory is left.
-fn print(alloc: Global, text: &[u8], ready: &Ready, words: &WordList) -> Result<Text, NoMemory>
-    requires ready { IsReady text.now ready.now }
-    requires words { rule.IsGreatest ready.now.system words.now }
-    ensures { IfOk result (IsAnnotated text.now) }
+/// The text with words put in. Where their places do not rise within the text, it answers that no memory is left.
+fn woven(alloc: Global, text: &[u8], insertions: &Insertions) -> Result<Text, NoMemory>
+    ensures { IfOk result (Woven text.now insertions.now) }
 {
-    let insertions = insertions(alloc, &ready.module, &ready.uses, &ready.positions, words)?;
     if !stand_within(insertions.as_slice(), text.len()) {
         return Err(NoMemory);
     }
-    let bytes = weave(alloc, text, &insertions)?;
+    weave(alloc, text, insertions)
+}
+
+/// What is printed of what is added for these words.
+fn shown(
+    alloc: Global,
+    text: &[u8],
+    ready: &Ready,
+    words: &WordList,
+    insertions: &Insertions,
+    emit: Emit,
+) -> Result<Text, NoMemory>
+    requires ready { IsReady text.now ready.now }
+    requires words { rule.IsGreatest ready.now.system words.now }
+    requires insertions { insertions.now ≡ insertions_of ready.now.module (facts_in ready.now.positions (slice_index words.now)) }
+    ensures { IfOk result (IsShown emit text.now ready.now.module (facts_in ready.now.positions (slice_index words.now))) }
+{
+    match emit {
+        Emit::Module => woven(alloc, text, insertions),
+        Emit::List => list(alloc, insertions),
+        Emit::Summary => summary(alloc, &ready.module, &ready.positions, words, insertions),
+    }
+}
+
+/// What is printed for these words.
+fn print(
+    alloc: Global,
+    text: &[u8],
+    ready: &Ready,
+    words: &WordList,
+    emit: Emit,
+) -> Result<Text, NoMemory>
+    requires ready { IsReady text.now ready.now }
+    requires words { rule.IsGreatest ready.now.system words.now }
+    ensures { IfOk result (IsAnnotated emit text.now) }
+{
+    let insertions = insertions(alloc, &ready.module, &ready.uses, &ready.positions, words)?;
+    let bytes = shown(alloc, text, ready, words, &insertions, emit)?;
     Ok(bytes)
 }
 
-/// The text with the words of the greatest self-supporting set of facts of what was read of it.
+/// What is printed for the words of the greatest self-supporting set of facts of what was read of the text.
 fn deduce<R: Threads + Sync, G: Gate + Sync>(
     rt: &R,
     alloc: Global,
     text: &[u8],
     ready: &Ready,
     workers: u8,
+    emit: Emit,
     gate: &G,
 ) -> Result<Text, NoMemory>
     requires some { 1 ≤ workers }
     requires most { workers ≤ 16 }
     requires ready { IsReady text.now ready.now }
-    ensures { IfOk result (IsAnnotated text.now) }
+    ensures { IfOk result (IsAnnotated emit text.now) }
 {
     let words = greatest(rt, alloc, &ready.system, &ready.graph, workers, gate)?;
-    let bytes = print(alloc, text, ready, &words)?;
+    let bytes = print(alloc, text, ready, &words, emit)?;
     Ok(bytes)
 }
 
-/// The text with the words of its module's greatest self-supporting set of facts put in.
+/// What is printed of a text: the text with the words of its module's greatest self-supporting set of facts put in, a line for
+/// each insertion, or how often each attribute is added.
 ///
 /// The answer is the same for every number of workers, from 1 to 16.
 ///
@@ -101,12 +134,12 @@ pub fn annotate<R: Threads + Sync, G: Gate + Sync>(
 ) -> Result<Annotated, Refusal>
     requires some { 1 ≤ workers }
     requires most { workers ≤ 16 }
-    ensures annotated { IfOk result (λ a. IsAnnotated text.now a.bytes) }
+    ensures annotated { IfOk result (λ a. IsAnnotated emit text.now a.bytes) }
     ensures refused { IfErr result (IsCause text.now) }
     ensures accepted { IsAccepted text.now → IsOk result ⊎ (result ≡ Err Refusal.NoMemory) }
 {
     match read(alloc, text) {
-        Ok(ready) => match deduce(rt, alloc, text, &ready, workers, gate) {
+        Ok(ready) => match deduce(rt, alloc, text, &ready, workers, emit, gate) {
             Ok(bytes) => Ok(Annotated { bytes }),
             Err(_) => Err(Refusal::NoMemory),
         },

@@ -2,6 +2,7 @@
 ghost use Rattle.std.specs.Prelude.{◌≡◌, ◌++◌, ◌≤◌, length, if◌then◌else◌, [], ◌==◌, IfOk, OnOk};
 ghost use Rattle.ir_token.specs.declared.TheConstants.{MAX_BYTES};
 ghost use Rattle.accept.specs.Accepted.{IsModuleOf};
+ghost use Rattle.accept.specs.Causes.{IsBroken, IsCause};
 ghost use Rattle.attrib.specs.Lines as spec;
 
 use crate::places::{cut, put_place};
@@ -135,7 +136,7 @@ fn module_of(alloc: Global, text: &[u8]) -> Result<Module, NoMemory>
 }
 
 fn verify_line(alloc: Global, text: &[u8], fault: &Fault) -> Result<Text, NoMemory>
-    requires { length text.now ≤ MAX_BYTES }
+    requires { IsBroken text.now fault.now }
     ensures { IfOk result (spec.IsVerifyLine text.now fault.now) }
 {
     match fault {
@@ -179,7 +180,7 @@ fn limit_line(alloc: Global, which: Limit, count: u64) -> Result<Text, NoMemory>
 
 /// The line of a refusal of a text; there is none for a want of memory, which is answered as what it is.
 pub(crate) fn refusal_line(alloc: Global, text: &[u8], refusal: &Refusal) -> Result<Text, NoMemory>
-    requires { length text.now ≤ MAX_BYTES }
+    requires { IsCause text.now refusal.now }
     ensures { IfOk result (spec.IsLine text.now refusal.now) }
 {
     match refusal {

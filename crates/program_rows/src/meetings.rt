@@ -178,7 +178,7 @@ pub fn held_ring<R: Print + Threads + Sync>(
 ) -> io::Result<()> {
     let functions = row.number();
     let text = ring(alloc, functions, "")?;
-    let wanted = ring(alloc, functions, " nounwind")?;
+    let wanted = ring(alloc, functions, " nofree noreturn nounwind")?;
     let workers = row.number();
     let worker = row.number().min(15) as u8;
     let alike = runs_alike(rt, alloc, &text, &wanted, workers, worker);

@@ -1,47 +1,64 @@
-use Rattle.std.proofs.Common.{refl, sym, ap, subst, inl, inr, Err}
-use Rattle.attr_io.specs.Outside.{Stream}
-use Rattle.attr_io.specs.Transfer.{IsWhole}
-use Rattle.attrib.proofs.Stopped.{refused, fails}
+use Rattle.std.proofs.Common.{◌≡◌, ap, sym, subst, inl, inr, ◌∙◌}
+use Rattle.attrib.specs.Annotated.{IsAccepted}
+use Rattle.attrib.specs.Run.{TellsText}
 use Rattle.attrib.proofs.run.attrib.Goals as goal
 
 pub returns-in-Ok-clause-refused : goal.returns-in-Ok-clause-refused
 returns-in-Ok-clause-refused g c = λ e.
-    let old : Stream = g.S.Source.stream c.args.source.now in
-    let new : Stream = g.S.Source.stream c.read_all.new.source in
-    let whole : IsWhole old new c.as_slice.result.now = subst (IsWhole old new) (sym c.as_slice.ensures.value) c.in-Ok.ensures.whole in
-    let told = c.answer.ensures.refused e in
-    (told.0, inl (c.as_slice.result.now, whole, told.1), told.2)
+    let told = c.run.ensures.refused e in
+    (told.0, (c.in-Ok.asked, c.in-Ok.ensures.asks, told.1), told.2)
 
 pub returns-in-Ok-clause-write_fault : goal.returns-in-Ok-clause-write_fault
-returns-in-Ok-clause-write_fault g c = λ e.
-    let old : Stream = g.S.Source.stream c.args.source.now in
-    let new : Stream = g.S.Source.stream c.read_all.new.source in
-    let whole : IsWhole old new c.as_slice.result.now = subst (IsWhole old new) (sym c.as_slice.ensures.value) c.in-Ok.ensures.whole in
-    elim (c.answer.ensures.fault e) [
-      | inl out ↦ inl (out.0, (out.1.0, (c.as_slice.result.now, whole, out.1.1), out.1.2), out.2)
-      | inr errs ↦ inr (errs.0, (errs.1.0, inr (inr (inl (c.as_slice.result.now, whole, errs.1.1))), errs.1.2))
-    ]
+returns-in-Ok-clause-write_fault g c = λ e. elim (c.run.ensures.write_fault e) [
+  | inl out ↦ inl (out.0, (out.1.0, (c.in-Ok.asked, c.in-Ok.ensures.asks, out.1.1), out.1.2), out.2)
+  | inr errs ↦
+      inr (
+        errs.0,
+        (
+          errs.1.0,
+          inr (elim errs.1.1 [
+            | inl rose ↦ inl rose
+            | inr line ↦ inr (c.in-Ok.asked, c.in-Ok.ensures.asks, line)
+          ]),
+          errs.1.2,
+        ),
+      )
+]
 
-pub returns-in-Err-clause-refused : goal.returns-in-Err-clause-refused
-returns-in-Err-clause-refused g c =
-    refused (g.S.Source.stream c.args.source.now) (g.S.Source.stream c.read_all.new.source) (g.E.Sink.stream c.args.errs.now)
-    (g.E.Sink.stream c.end_reading.new.errs) c.end_reading.result c.in-Err.stop (record {
-      failed = λ is. (c.in-Err.ensures.failed (ap Err is)).0;
-      large = λ is. c.in-Err.ensures.too_large (ap Err is);
-      of_failed = c.end_reading.ensures.failed;
-      of_large = c.end_reading.ensures.large;
-      of_memory = c.end_reading.ensures.memory;
-    })
+pub returns-in-Ok-clause-made : goal.returns-in-Ok-clause-made
+returns-in-Ok-clause-made g c = λ asked is count made.
+    let same : c.in-Ok.asked ≡ asked = elim (c.in-Ok.ensures.taken asked is) [
+      | inl ok ↦ (cc)
+      | inr none ↦ absurd (cc)
+    ] in
+    c.run.ensures.unread count (ap (λ a. a.generate) same ∙ made)
 
-pub returns-in-Err-clause-write_fault : goal.returns-in-Err-clause-write_fault
-returns-in-Err-clause-write_fault g c = λ is. inr (
-  refl,
-  fails (g.S.Source.stream c.args.source.now) (g.S.Source.stream c.read_all.new.source) (g.E.Sink.stream c.args.errs.now)
-      (g.E.Sink.stream c.end_reading.new.errs) c.end_reading.result c.args.words.now c.in-Err.stop (record {
-        failed = λ is. (c.in-Err.ensures.failed (ap Err is)).0;
-        large = λ is. c.in-Err.ensures.too_large (ap Err is);
-        of_failed = c.end_reading.ensures.failed;
-        of_large = c.end_reading.ensures.large;
-        of_memory = c.end_reading.ensures.memory;
-      }) is,
-)
+pub returns-in-Ok-clause-accepted : goal.returns-in-Ok-clause-accepted
+returns-in-Ok-clause-accepted g c = λ asked is tells.
+    let bytes = (g.S.Source.stream c.args.source.now).bytes in
+    let same : c.in-Ok.asked ≡ asked = elim (c.in-Ok.ensures.taken asked is) [
+      | inl ok ↦ (cc)
+      | inr none ↦ absurd (cc)
+    ] in
+    c.run.ensures.accepted (subst (λ a. TellsText a.generate bytes IsAccepted) (sym same) tells)
+
+pub returns-in-Ok-clause-outside : goal.returns-in-Ok-clause-outside
+returns-in-Ok-clause-outside g c = λ asked is tells.
+    let bytes = (g.S.Source.stream c.args.source.now).bytes in
+    let same : c.in-Ok.asked ≡ asked = elim (c.in-Ok.ensures.taken asked is) [
+      | inl ok ↦ (cc)
+      | inr none ↦ absurd (cc)
+    ] in
+    c.run.ensures.outside (subst (λ a. TellsText a.generate bytes (λ b. IsAccepted b → ⊥)) (sym same) tells)
+
+pub returns-in-Err-Usage-clause-accepted : goal.returns-in-Err-Usage-clause-accepted
+returns-in-Err-Usage-clause-accepted g c = λ asked is tells quiet silent. absurd (elim (c.in-Err-Usage.ensures.taken asked is) [
+  | inl ok ↦ (cc)
+  | inr none ↦ (cc)
+])
+
+pub returns-in-Err-Usage-clause-outside : goal.returns-in-Err-Usage-clause-outside
+returns-in-Err-Usage-clause-outside g c = λ asked is tells quiet silent. absurd (elim (c.in-Err-Usage.ensures.taken asked is) [
+  | inl ok ↦ (cc)
+  | inr none ↦ (cc)
+])
