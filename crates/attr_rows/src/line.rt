@@ -18,6 +18,11 @@ impl Line {
         }
     }
 
+    /// The line of a row that got no memory.
+    pub fn lose(&mut self) {
+        self.is_whole = false;
+    }
+
     pub fn put(&mut self, text: &str) {
         if self.text.push_str(text).is_err() {
             self.is_whole = false;

@@ -13,7 +13,6 @@ mod line;
 mod module;
 mod show;
 
-use attr_ids::NoMemory;
 use ir_literals::{align_at, count_at, is_layout, literal_at, number_at, push_read, read_len};
 use line::Line;
 use std::alloc::Global;
@@ -32,58 +31,60 @@ fn int(rest: &str, line: &mut Line) {
     }
 }
 
-fn read(alloc: Global, text: &[u8], line: &mut Line) -> Result<(), NoMemory> {
-    let mut bytes = Vec::new(alloc);
-    push_read(&mut bytes, text)?;
-    line.number(read_len(text) as u64);
-    line.put(":");
-    for byte in &bytes {
+fn put_bytes(line: &mut Line, bytes: &[u8]) {
+    for byte in bytes {
         line.put(" ");
         line.number(*byte as u64);
     }
-    Ok(())
 }
 
-fn answer(alloc: Global, question: &str, rest: &str, line: &mut Line) -> Result<(), NoMemory> {
+fn read(alloc: Global, text: &[u8], line: &mut Line) {
+    let mut bytes = Vec::new(alloc);
+    if push_read(&mut bytes, text).is_err() {
+        return line.lose();
+    }
+    line.number(read_len(text) as u64);
+    line.put(":");
+    put_bytes(line, bytes.as_slice())
+}
+
+fn answer(alloc: Global, question: &str, rest: &str, line: &mut Line) {
     let text = rest.as_bytes();
     match question {
         "int" => int(rest, line),
         "number" => line.number_or(number_at(text), "-"),
         "align" => line.number(align_at(text)),
         "count" => line.number(count_at(text)),
-        "read" => read(alloc, text, line)?,
+        "read" => read(alloc, text, line),
         "layout" => line.put(if is_layout(text) { "yes" } else { "no" }),
-        "module" => module::told(alloc, text, line)?,
+        "module" => module::told(alloc, text, line),
         _ => line.put("?"),
     }
-    Ok(())
 }
 
-fn line_for(alloc: Global, text: &str) -> Result<Line, NoMemory> {
-    let mut line = Line::new(alloc);
+fn put_line(alloc: Global, text: &str, line: &mut Line) {
     line.put(text);
-    if !text.starts_with(';') {
-        if let Some((question, rest)) = text.split_once(' ') {
-            line.put(" = ");
-            answer(alloc, question, rest, &mut line)?;
-        }
+    if text.starts_with(';') {
+        return;
     }
-    if line.is_whole {
-        Ok(line)
-    } else {
-        Err(NoMemory)
+    if let Some((question, rest)) = text.split_once(' ') {
+        line.put(" = ");
+        answer(alloc, question, rest, line);
     }
+}
+
+fn print(rt: &HostRuntime, text: &str) -> io::Result<()> {
+    let mut line = Line::new(rt.alloc());
+    put_line(rt.alloc(), text, &mut line);
+    if !line.is_whole {
+        return println!(rt; "out of memory");
+    }
+    println!(rt; "{}", line.text.as_str())
 }
 
 fn main(rt: HostRuntime) -> io::Result<()> {
-    for line in rt.lines(rt.alloc()) {
-        match line_for(rt.alloc(), line?.as_str()) {
-            Ok(line) => {
-                let text = line.text.as_str();
-                println!(rt; "{text}")?;
-            }
-            Err(NoMemory) => println!(rt; "out of memory")?,
-        }
+    for text in rt.lines(rt.alloc()) {
+        print(&rt, text?.as_str())?;
     }
     Ok(())
 }

@@ -13,7 +13,7 @@ use ir_attrs::{
 use ir_parse_body::SyntaxRefusal;
 use ir_parse_top::parse_module;
 use ir_token::{Kind, LexRefusal, MAX_BYTES, Token, Tokens, nesting, tokens};
-use ir_tree::{Body, Called, Entity, Header, Instr, Line as Row, Params, Tree};
+use ir_tree::{Arg, Body, Called, Entity, Header, Instr, Line as Row, Params, Tree, Word};
 use std::alloc::Global;
 
 /// A text, its tokens, the numbers of its names and its groups.
@@ -45,92 +45,84 @@ fn ids_of(alloc: Global, text: &[u8], toks: &[Token]) -> Result<Vec<u32>, NoMemo
     Ok(ids)
 }
 
-fn header(
-    alloc: Global,
-    read: Read,
-    groups: &Groups,
-    header: &Header,
-    line: &mut Line,
-) -> Result<(), NoMemory> {
-    let attrs = func_attrs(
-        alloc,
-        read.text,
-        read.toks,
-        read.ids,
-        groups,
-        header.attributes.as_slice(),
-    )?;
-    show::func(line, &attrs);
-    let ret = param_attrs(read.text, read.toks, header.result_words.as_slice());
-    show::param(line, "ret", &ret);
-    show::places(line, func_places(read.toks, header));
-    if let Params::Listed { params, .. } = &header.params {
+fn params(read: Read, params: &Params, line: &mut Line) {
+    if let Params::Listed { params, .. } = params {
         for param in params.as_slice() {
             let attrs = param_attrs(read.text, read.toks, param.words.as_slice());
             show::param(line, "param", &attrs);
             line.named("at", param_place(read.toks, param) as u64);
         }
     }
-    Ok(())
 }
 
-fn called(
-    alloc: Global,
-    read: Read,
-    groups: &Groups,
-    called: &Called,
-    line: &mut Line,
-) -> Result<(), NoMemory> {
-    let words = called.arguments.attributes.as_slice();
-    let attrs = func_attrs(alloc, read.text, read.toks, read.ids, groups, words)?;
-    line.put(" call");
-    show::func(line, &attrs);
-    let places = call_places(alloc, read.toks, called)?;
-    line.named("at", places.ret as u64);
-    line.named("and", places.after as u64);
-    for arg in called.arguments.args.as_slice() {
+/// What a list of attributes says of a function.
+fn func(alloc: Global, read: Read, groups: &Groups, words: &[Word], line: &mut Line) {
+    match func_attrs(alloc, read.text, read.toks, read.ids, groups, words) {
+        Ok(attrs) => show::func(line, &attrs),
+        Err(NoMemory) => line.lose(),
+    }
+}
+
+fn header(alloc: Global, read: Read, groups: &Groups, header: &Header, line: &mut Line) {
+    func(alloc, read, groups, header.attributes.as_slice(), line);
+    let ret = param_attrs(read.text, read.toks, header.result_words.as_slice());
+    show::param(line, "ret", &ret);
+    show::places(line, func_places(read.toks, header));
+    params(read, &header.params, line)
+}
+
+fn args(read: Read, args: &[Arg], line: &mut Line) {
+    for arg in args {
         let attrs = param_attrs(read.text, read.toks, arg.words.as_slice());
         show::param(line, "arg", &attrs);
         line.named("at", arg_place(read.toks, arg) as u64);
     }
-    Ok(())
 }
 
-fn body(
-    alloc: Global,
-    read: Read,
-    groups: &Groups,
-    body: &Body,
-    line: &mut Line,
-) -> Result<(), NoMemory> {
+fn called(alloc: Global, read: Read, groups: &Groups, called: &Called, line: &mut Line) {
+    line.put(" call");
+    func(
+        alloc,
+        read,
+        groups,
+        called.arguments.attributes.as_slice(),
+        line,
+    );
+    match call_places(alloc, read.toks, called) {
+        Ok(places) => {
+            line.named("at", places.ret as u64);
+            line.named("and", places.after as u64);
+        }
+        Err(NoMemory) => line.lose(),
+    }
+    args(read, called.arguments.args.as_slice(), line)
+}
+
+fn instr(alloc: Global, read: Read, groups: &Groups, instr: &Instr, line: &mut Line) {
+    match instr {
+        Instr::Call(call) => called(alloc, read, groups, &call.get().called, line),
+        Instr::Load { align, .. } => {
+            line.put(" load align ");
+            line.number_or(align_field(read.text, read.toks, *align), "-");
+        }
+        _ => {}
+    }
+}
+
+fn body(alloc: Global, read: Read, groups: &Groups, body: &Body, line: &mut Line) {
     for row in body.first.lines.as_slice() {
-        if let Row::Instr { instr, .. } = row {
-            match instr.get() {
-                Instr::Call(call) => called(alloc, read, groups, &call.get().called, line)?,
-                Instr::Load { align, .. } => {
-                    line.put(" load");
-                    line.put(" align ");
-                    line.number_or(align_field(read.text, read.toks, *align), "-");
-                }
-                _ => {}
-            }
+        if let Row::Instr { instr: found, .. } = row {
+            instr(alloc, read, groups, found.get(), line);
         }
     }
-    Ok(())
 }
 
-fn entity(
-    alloc: Global,
-    read: Read,
-    groups: &Groups,
-    entity: &Entity,
-    line: &mut Line,
-) -> Result<(), NoMemory> {
+fn entity(alloc: Global, read: Read, groups: &Groups, entity: &Entity, line: &mut Line) {
     match entity {
-        Entity::Declare(declare) => header(alloc, read, groups, &declare.get().header, line)?,
+        Entity::Declare(declare) => header(alloc, read, groups, &declare.get().header, line),
         Entity::Define(define) => {
-            header(alloc, read, groups, &define.get().header, line)?;
-            body(alloc, read, groups, &define.get().body, line)?;
+            header(alloc, read, groups, &define.get().header, line);
+            body(alloc, read, groups, &define.get().body, line);
         }
         Entity::GlobalVar(global) => {
             line.put(" global align ");
@@ -139,59 +131,55 @@ fn entity(
         }
         _ => {}
     }
-    Ok(())
 }
 
-fn tree(
-    alloc: Global,
-    text: &[u8],
-    toks: &[Token],
-    tree: &Tree,
-    line: &mut Line,
-) -> Result<(), NoMemory> {
-    let ids = ids_of(alloc, text, toks)?;
-    let entities = tree.entities.as_slice();
-    let groups = groups(alloc, text, toks, ids.as_slice(), entities)?;
-    let read = Read {
-        text,
-        toks,
-        ids: ids.as_slice(),
-    };
-    for each in entities {
-        entity(alloc, read, &groups, each, line)?;
+fn grouped(alloc: Global, read: Read, entities: &[Entity], line: &mut Line) {
+    match groups(alloc, read.text, read.toks, read.ids, entities) {
+        Ok(groups) => {
+            for each in entities {
+                entity(alloc, read, &groups, each, line);
+            }
+        }
+        Err(NoMemory) => line.lose(),
     }
-    Ok(())
 }
 
-fn parsed(alloc: Global, text: &[u8], toks: &Tokens, line: &mut Line) -> Result<(), NoMemory>
+fn tree(alloc: Global, text: &[u8], toks: &[Token], tree: &Tree, line: &mut Line) {
+    match ids_of(alloc, text, toks) {
+        Ok(ids) => {
+            let read = Read {
+                text,
+                toks,
+                ids: ids.as_slice(),
+            };
+            grouped(alloc, read, tree.entities.as_slice(), line);
+        }
+        Err(NoMemory) => line.lose(),
+    }
+}
+
+fn parsed(alloc: Global, text: &[u8], toks: &Tokens, line: &mut Line)
     requires small { length text.now ≤ MAX_BYTES }
     requires tokens { AreTokens text.now toks.now }
 {
     if nesting(toks, text) > 256 {
-        line.put(" too deep");
-        return Ok(());
+        return line.put(" too deep");
     }
     match parse_module(alloc, toks, text) {
         Ok(found) => tree(alloc, text, toks.as_slice(), &found, line),
-        Err(SyntaxRefusal::Syntax { .. }) => {
-            line.put(" no module");
-            Ok(())
-        }
-        Err(SyntaxRefusal::NoMemory) => Err(NoMemory),
+        Err(SyntaxRefusal::Syntax { .. }) => line.put(" no module"),
+        Err(SyntaxRefusal::NoMemory) => line.lose(),
     }
 }
 
 /// Tells the attributes of the functions, calls and globals of a module.
-pub fn told(alloc: Global, text: &[u8], line: &mut Line) -> Result<(), NoMemory> {
+pub fn told(alloc: Global, text: &[u8], line: &mut Line) {
     if text.len() > MAX_BYTES {
-        return Ok(());
+        return;
     }
     match tokens(alloc, text) {
         Ok(toks) => parsed(alloc, text, &toks, line),
-        Err(LexRefusal::NoMemory) => Err(NoMemory),
-        Err(_) => {
-            line.put(" no tokens");
-            Ok(())
-        }
+        Err(LexRefusal::NoMemory) => line.lose(),
+        Err(_) => line.put(" no tokens"),
     }
 }

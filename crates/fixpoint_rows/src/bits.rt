@@ -1,5 +1,6 @@
 //! The bits of a word and the two ladders.
-use crate::numbers::{Answer, at, put_all};
+use crate::line::Line;
+use crate::numbers::at;
 use lattice_words::value::*;
 use lattice_words::word::FACT_BITS;
 use lattice_words::{align_rung, byte_rung, keep_align, shift};
@@ -55,33 +56,33 @@ const VALUE_BITS: [u32; FACT_BITS as usize] = [
     NOT_WRITTEN_THROUGH,
 ];
 
-fn put_bits(out: &mut Answer) {
+fn put_bits(line: &mut Line) {
     for bit in &VALUE_BITS {
-        out.push(u64::from(*bit));
+        line.push(u64::from(*bit));
     }
 }
 
-fn put_byte_rungs(out: &mut Answer) {
+fn put_byte_rungs(line: &mut Line) {
     for rung in 0..BYTE_RUNGS {
-        out.push(byte_rung(rung));
+        line.push(byte_rung(rung));
     }
 }
 
-fn put_align_rungs(out: &mut Answer) {
+fn put_align_rungs(line: &mut Line) {
     for rung in 0..ALIGN_RUNGS {
-        out.push(align_rung(rung));
+        line.push(align_rung(rung));
     }
 }
 
 /// Answers a call of the words, if it is one.
-pub(crate) fn answer(call: &str, n: &[u64], out: &mut Answer) -> bool {
+pub(crate) fn answer(call: &str, n: &[u64], line: &mut Line) -> bool {
     match call {
-        "value_bits" => put_bits(out),
-        "byte_rungs" => put_byte_rungs(out),
-        "align_rungs" => put_align_rungs(out),
-        "ladders" => put_all(out, &[ALL_BYTES, ALL_ALIGN]),
-        "shift" => out.push(shift(at(n, 0), at(n, 1))),
-        "keep_align" => out.push(keep_align(at(n, 0), at(n, 1))),
+        "value_bits" => put_bits(line),
+        "byte_rungs" => put_byte_rungs(line),
+        "align_rungs" => put_align_rungs(line),
+        "ladders" => line.put_all(&[ALL_BYTES, ALL_ALIGN]),
+        "shift" => line.push(shift(at(n, 0), at(n, 1))),
+        "keep_align" => line.push(keep_align(at(n, 0), at(n, 1))),
         _ => return false,
     }
     true

@@ -1,6 +1,5 @@
 //! What a line leaves for the next one.
-use anyhow::Result;
-use attr_ids::WordList;
+use attr_ids::{NoMemory, WordList};
 use row_lists::{EdgeRows, Rows};
 use rule_terms::System;
 use std::alloc::Global;
@@ -13,11 +12,14 @@ pub(crate) struct Desk {
 }
 
 impl Desk {
-    pub(crate) fn new(alloc: Global) -> Result<Desk> {
+    pub(crate) fn new(alloc: Global) -> Result<Desk, NoMemory> {
+        let rows = Rows::with_rooms(alloc, &[], 0)?;
+        let edges = EdgeRows::new(alloc, 0)?;
+        let system = System::new(alloc, WordList::new(alloc))?;
         Ok(Desk {
-            rows: Rows::with_rooms(alloc, &[], 0)?,
-            edges: EdgeRows::new(alloc, 0)?,
-            system: System::new(alloc, WordList::new(alloc))?,
+            rows,
+            edges,
+            system,
         })
     }
 }

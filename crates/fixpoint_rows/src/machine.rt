@@ -2,12 +2,11 @@
 ghost use Rattle.std.specs.Prelude.{◌≡◌, [], ◌∷◌, IsTrue, IfOk, All, length};
 ghost use Rattle.fix_core.specs.Machine.{new_seat, IsEvent};
 ghost use Rattle.fix_core.specs.Runs.{CanRun};
+ghost use Rattle.dep_graph.specs.Graph.{IsGraphOf};
 
-use crate::desk::Desk;
-use crate::numbers::{Answer, put_all, put_places};
-use anyhow::{Result, bail};
+use crate::line::Line;
 use attr_ids::{NoMemory, PosId, PosList, WordList};
-use dep_graph::dependents;
+use dep_graph::DepGraph;
 use fix_core::{CoreEvent, CoreMode, CoreSeat, CoreSeats, CoreState, EventList, run};
 use lattice_words::word::DIRTY;
 use rule_terms::System;
@@ -40,15 +39,22 @@ fn opening_words(alloc: Global, s: &System) -> Result<WordList, NoMemory>
     Ok(words)
 }
 
+fn two_seats(alloc: Global) -> Result<CoreSeats, NoMemory>
+    ensures { IfOk result (λ seats. seats ≡ new_seat ∷ new_seat ∷ []) }
+{
+    let mut seats = CoreSeats::new(alloc);
+    seats.push(new_seat(alloc))?;
+    seats.push(new_seat(alloc))?;
+    Ok(seats)
+}
+
 #[tactic(auto, using(fix_core::proofs::Doing::opening_runs))]
 fn opening(alloc: Global, s: &System) -> Result<CoreState, NoMemory>
     ensures can { IfOk result (λ c. CanRun s.now c 100) }
     ensures seats { IfOk result (λ c. length c.seats ≡ 2) }
 {
     let words = opening_words(alloc, s)?;
-    let mut seats = CoreSeats::new(alloc);
-    seats.push(new_seat(alloc))?;
-    seats.push(new_seat(alloc))?;
+    let seats = two_seats(alloc)?;
     Ok(CoreState { words, seats })
 }
 
@@ -65,7 +71,7 @@ fn event(number: u64) -> CoreEvent {
     }
 }
 
-fn events(alloc: Global, n: &[u64]) -> Result<EventList> {
+fn events(alloc: Global, n: &[u64]) -> Result<EventList, NoMemory> {
     let mut events = EventList::new(alloc);
     for number in n {
         events.push(event(*number))?;
@@ -96,54 +102,61 @@ fn are_events(events: &[CoreEvent], count: u32) -> bool
     true
 }
 
-/// The state that two seats reach from the opening by these events.
-#[tactic(auto, using(fix_core::proofs::Doing::runs_less))]
-fn reached(alloc: Global, s: &System, n: &[u64]) -> Result<CoreState> {
-    let events = events(alloc, n)?;
-    let start = opening(alloc, s)?;
-    let graph = dependents(alloc, s)?;
-    if events.len() > 100 || !are_events(events.as_slice(), s.count()) {
-        bail!("no events of two seats");
-    }
-    Ok(run(alloc, s, &graph, &start, &events)?)
-}
-
 /// Answers a seat: whether it is idle, has a position open or owes some, how many words it took up and told, how many
 /// positions it knows, which, and which it owes.
-fn put_seat(out: &mut Answer, seat: &CoreSeat) {
+fn put_seat(line: &mut Line, seat: &CoreSeat) {
     let mode = match &seat.mode {
         CoreMode::Idle => 0,
         CoreMode::Open { .. } => 1,
         CoreMode::Owes { .. } => 2,
     };
-    put_all(out, &[mode, seat.took, seat.told, seat.known.len() as u64]);
-    put_places(out, seat.known.as_slice());
+    line.put_all(&[mode, seat.took, seat.told, seat.known.len() as u64]);
+    line.put_places(seat.known.as_slice());
     if let CoreMode::Owes { list } = &seat.mode {
-        put_places(out, list.as_slice());
+        line.put_places(list.as_slice());
     }
 }
 
-/// Answers the words that are reached, and the seats.
-fn reach(alloc: Global, out: &mut Answer, s: &System, n: &[u64]) -> Result<()> {
-    let end = reached(alloc, s, n)?;
-    put_all(out, end.words.as_slice());
-    for seat in end.seats.as_slice() {
-        put_seat(out, seat);
+/// Answers the words of a state, and its seats.
+fn put_state(line: &mut Line, state: &CoreState) {
+    line.put_all(state.words.as_slice());
+    for seat in state.seats.as_slice() {
+        put_seat(line, seat);
     }
-    Ok(())
 }
 
-/// Answers a call of the core machine, if it is one.
-pub(crate) fn answer(
+/// Answers the state that two seats reach from this one by these events.
+#[tactic(auto, using(fix_core::proofs::Doing::runs_less))]
+fn put_end(
     alloc: Global,
-    desk: &mut Desk,
-    call: &str,
-    n: &[u64],
-    out: &mut Answer,
-) -> Result<bool> {
-    match call {
-        "events" => reach(alloc, out, &desk.system, n)?,
-        _ => return Ok(false),
+    line: &mut Line,
+    s: &System,
+    graph: &DepGraph,
+    start: &CoreState,
+    events: &EventList,
+)
+    requires graph { IsGraphOf s.now graph.now }
+    requires can { CanRun s.now start.now 100 }
+    requires seats { length start.now.seats ≡ 2 }
+{
+    if events.len() > 100 || !are_events(events.as_slice(), s.count()) {
+        return line.put(" no events of two seats");
     }
-    Ok(true)
+    match run(alloc, s, graph, start, events) {
+        Ok(state) => put_state(line, &state),
+        Err(NoMemory) => line.lose(),
+    }
+}
+
+/// Answers the state that two seats reach from the opening by the events that these numbers are.
+pub(crate) fn put_reached(alloc: Global, line: &mut Line, s: &System, graph: &DepGraph, n: &[u64])
+    requires { IsGraphOf s.now graph.now }
+{
+    let Ok(events) = events(alloc, n) else {
+        return line.lose();
+    };
+    let Ok(start) = opening(alloc, s) else {
+        return line.lose();
+    };
+    put_end(alloc, line, s, graph, &start, &events)
 }

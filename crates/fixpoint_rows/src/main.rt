@@ -4,6 +4,9 @@
 
 mod bits;
 mod desk;
+mod edges;
+mod graphed;
+mod line;
 mod lists;
 mod machine;
 mod numbers;
@@ -13,63 +16,75 @@ mod running;
 mod seats;
 mod terms;
 
-use anyhow::{Result, bail};
+use attr_ids::NoMemory;
 use desk::Desk;
-use numbers::Answer;
+use line::Line;
 use std::alloc::Global;
+use std::io::{self, Print};
 use std::thread::Threads;
 
-/// The numbers that a call answers.
+/// Puts the numbers that a call answers; answers whether there is such a call.
 fn answer<R: Threads + Sync>(
     rt: &R,
     alloc: Global,
     desk: &mut Desk,
     call: &str,
     n: &[u64],
-) -> Result<Vec<u64>> {
-    let mut out = Answer::new(alloc);
-    let is_known = bits::answer(call, n, &mut out)
-        || lists::answer(alloc, call, n, &mut out)?
-        || rows::answer(alloc, desk, call, n, &mut out)?
-        || terms::answer(alloc, desk, call, n, &mut out)?
-        || machine::answer(alloc, desk, call, n, &mut out)?
-        || seats::answer(alloc, desk, call, n, &mut out)?
-        || pools::answer(alloc, call, &mut out)?
-        || running::answer(rt, alloc, desk, call, n, &mut out)?;
-    if !is_known {
-        bail!("no such call: {call}");
-    }
-    match out.whole() {
-        Some(numbers) => Ok(numbers),
-        None => bail!("out of memory"),
-    }
+    line: &mut Line,
+) -> bool {
+    bits::answer(call, n, line)
+        || lists::answer(alloc, call, n, line)
+        || rows::answer(alloc, &mut desk.rows, call, n, line)
+        || edges::answer(alloc, &mut desk.edges, call, n, line)
+        || terms::answer(alloc, &mut desk.system, call, n, line)
+        || pools::answer(alloc, call, line)
+        || graphed::answer(rt, alloc, &desk.system, call, n, line)
 }
 
-/// A line and what came of it.
-fn told<R: Threads + Sync>(rt: &R, alloc: Global, desk: &mut Desk, line: &str) -> Result<String> {
-    let mut text = String::from_str(alloc, line)?;
-    let mut words = line.split_whitespace();
+/// Puts what comes of a line behind it.
+fn tell<R: Threads + Sync>(rt: &R, alloc: Global, desk: &mut Desk, text: &str, line: &mut Line) {
+    let mut words = text.split_whitespace();
     let Some(call) = words.next() else {
-        return Ok(text);
+        return;
     };
     if call.starts_with('#') {
-        return Ok(text);
+        return;
     }
-    let n = numbers::parsed(alloc, words)?;
-    text.push_str(" =")?;
-    for number in &answer(rt, alloc, desk, call, &n)? {
-        text.push_str(&format!(in alloc; " {number:x}")?)?;
+    line.put(" =");
+    let Ok(n) = numbers::parsed(alloc, words) else {
+        return line.lose();
+    };
+    if !answer(rt, alloc, desk, call, &n, line) {
+        line.put(" no such call");
     }
-    Ok(text)
 }
 
-fn main(rt: HostRuntime) -> Result<()> {
-    let alloc = rt.alloc();
-    let mut desk = Desk::new(alloc)?;
-    for line in rt.lines(alloc) {
-        let line = line?;
-        let text = told(&rt, alloc, &mut desk, line.as_str())?;
-        println!(rt; "{text}")?;
+/// Prints a line and what came of it.
+fn print<R: Threads + Print + Sync>(
+    rt: &R,
+    alloc: Global,
+    desk: &mut Desk,
+    text: &str,
+) -> io::Result<()> {
+    let mut line = Line::new(alloc);
+    tell(rt, alloc, desk, text, &mut line);
+    if line.is_lost {
+        return println!(rt; "out of memory");
+    }
+    println!(rt; "{text}{}", line.as_str())
+}
+
+/// What the first line finds.
+fn new_desk(alloc: Global) -> Result<Box<Desk>, NoMemory> {
+    Ok(Box::new(alloc, Desk::new(alloc)?)?)
+}
+
+fn main(rt: HostRuntime) -> io::Result<()> {
+    let Ok(mut desk) = new_desk(rt.alloc()) else {
+        return println!(rt; "out of memory");
+    };
+    for text in rt.lines(rt.alloc()) {
+        print(&rt, rt.alloc(), &mut desk, text?.as_str())?;
     }
     Ok(())
 }

@@ -1,42 +1,13 @@
 //! The numbers of a call.
-use anyhow::Result;
-use attr_ids::PosId;
+use attr_ids::{NoMemory, PosId};
 use std::alloc::Global;
 use std::str::SplitWhitespace;
 
-/// What a call answers, number by number. Where memory was refused it is lost.
-#[derive(Drop)]
-pub(crate) struct Answer {
-    numbers: Vec<u64>,
-    is_lost: bool,
-}
-
-impl Answer {
-    pub(crate) fn new(alloc: Global) -> Answer {
-        Answer {
-            numbers: Vec::new(alloc),
-            is_lost: false,
-        }
-    }
-
-    pub(crate) fn push(&mut self, number: u64) {
-        if self.numbers.push(number).is_err() {
-            self.is_lost = true;
-        }
-    }
-
-    /// The numbers, if none is lost.
-    pub(crate) fn whole(self) -> Option<Vec<u64>> {
-        let Answer { numbers, is_lost } = self;
-        if is_lost { None } else { Some(numbers) }
-    }
-}
-
-/// The numbers that these words are in base 16.
-pub(crate) fn parsed(alloc: Global, words: SplitWhitespace<'_>) -> Result<Vec<u64>> {
+/// The numbers that these words are in base 16; one that is none is the largest.
+pub(crate) fn parsed(alloc: Global, words: SplitWhitespace<'_>) -> Result<Vec<u64>, NoMemory> {
     let mut n = Vec::new(alloc);
     for word in words {
-        n.push(u64::from_str_radix(word, 16)?)?;
+        n.push(u64::from_str_radix(word, 16).unwrap_or(u64::MAX))?;
     }
     Ok(n)
 }
@@ -61,16 +32,8 @@ pub(crate) fn rest(n: &[u64], from: usize) -> &[u64] {
     n.get(from..).unwrap_or(&[])
 }
 
-/// Answers each of these numbers.
-pub(crate) fn put_all(out: &mut Answer, words: &[u64]) {
-    for word in words {
-        out.push(*word);
-    }
-}
+/// Types whose values threads may share.
+pub(crate) fn shared<T: Send + Sync>(_value: &T) {}
 
-/// Answers the number of each of these positions.
-pub(crate) fn put_places(out: &mut Answer, places: &[PosId]) {
-    for p in places {
-        out.push(u64::from(p.0));
-    }
-}
+/// Types whose values may go to another thread.
+pub(crate) fn is_send<T: Send>(_value: &T) {}

@@ -5,18 +5,17 @@ ghost use Rattle.word_rule.specs.Belongs.{system_in, workers_in};
 ghost use Rattle.workers.specs.Workers.{count_in, IsReady, IsPoolOf, IsWorkerOf};
 ghost use Rattle.steal_pool.specs.Pools.{IsRobberOf};
 
-use crate::desk::Desk;
-use crate::numbers::{Answer, at, place, put_all, small};
-use anyhow::{Result, bail};
-use attr_ids::{PosId, WorkerEnd};
+use crate::line::Line;
+use crate::numbers::{at, place, small};
+use attr_ids::{NoMemory, PosId, WorkerEnd};
 use attr_io::Gate;
-use dep_graph::{DepGraph, dependents};
+use dep_graph::DepGraph;
 use rule_terms::System;
 use std::alloc::Global;
 use std::thread::Threads;
 use steal_pool::{OwnPool, OwnPools, Robbers, pools};
 use word_rule::{LatticeWords, WorkerSeats};
-use workers::{Worker, run_all, run_worker};
+use workers::{Ran, Worker, run_all, run_worker};
 
 /// A gate that holds nobody back.
 struct Still;
@@ -34,12 +33,12 @@ fn code(end: WorkerEnd) -> u64 {
 }
 
 /// Answers the position of each hint that the pool still has, of at most three.
-fn put_hints(out: &mut Answer, own: &mut OwnPool) {
+fn put_hints(line: &mut Line, own: &mut OwnPool) {
     for _ in 0..3 {
         let Some(p) = own.draw() else {
             return;
         };
-        out.push(u64::from(p.0));
+        line.push(u64::from(p.0));
     }
 }
 
@@ -50,7 +49,7 @@ fn team(
     seats: WorkerSeats,
     pools: OwnPools,
     robbers: Robbers,
-) -> Result<Vec<Worker>>
+) -> Result<Vec<Worker>, NoMemory>
     requires seats { (length seats ≤ 16) × All (IsReady words.now) seats }
     requires pools { (length pools ≡ length seats) × All (IsPoolOf (count_in words.now)) pools }
     requires robbers { (length robbers ≡ length seats) × All (IsRobberOf (workers_in words.now) (count_in words.now)) robbers }
@@ -79,7 +78,7 @@ fn opened<'s>(
     s: &'s System,
     g: &'s DepGraph,
     workers: u8,
-) -> Result<(LatticeWords<'s>, Vec<Worker>)>
+) -> Result<(LatticeWords<'s>, Vec<Worker>), NoMemory>
     requires graph { IsGraphOf s.now g.now }
     requires workers { (0 < workers) × (workers ≤ 16) }
     ensures system { IfOk result (λ made. system_in made.0 ≡ s.now) }
@@ -102,25 +101,25 @@ fn give(words: &LatticeWords, worker: &mut Worker, p: PosId)
     }
 }
 
-/// Runs the worker for so many turns, and answers how it ended.
-fn run_one(words: &LatticeWords, worker: &mut Worker, turns: u64) -> u64
+/// Gives the only worker two hints, and runs it for so many turns. Answers how it ended, and the hints that its pool
+/// has then.
+fn run_given(line: &mut Line, words: &LatticeWords, worker: &mut Worker, n: &[u64])
     requires { IsWorkerOf words.now worker.old }
-    ensures { IsWorkerOf words.now worker.new }
 {
-    code(run_worker(words, worker, turns, &Still))
+    give(words, worker, place(n, 1));
+    give(words, worker, place(n, 2));
+    line.push(code(run_worker(words, worker, at(n, 0), &Still)));
+    put_hints(line, &mut worker.own)
 }
 
-/// Gives the only worker these hints, and runs it for so many turns. Answers how it ended, and the hints that its pool
-/// has then.
-fn alone(alloc: Global, out: &mut Answer, s: &System, n: &[u64]) -> Result<()> {
-    let graph = dependents(alloc, s)?;
-    let (words, mut team) = opened(alloc, s, &graph, 1)?;
-    let mut worker = team.remove(0);
-    give(&words, &mut worker, place(n, 1));
-    give(&words, &mut worker, place(n, 2));
-    out.push(run_one(&words, &mut worker, at(n, 0)));
-    put_hints(out, &mut worker.own);
-    Ok(())
+/// Runs one worker over the system.
+pub(crate) fn run_one(alloc: Global, line: &mut Line, s: &System, graph: &DepGraph, n: &[u64])
+    requires { IsGraphOf s.now graph.now }
+{
+    let Ok((words, mut team)) = opened(alloc, s, graph, 1) else {
+        return line.lose();
+    };
+    run_given(line, &words, &mut team[0], n)
 }
 
 /// Whether a dirty bit of the word is set, which ends the worker.
@@ -133,58 +132,62 @@ fn finds_dirty(words: &LatticeWords, worker: &mut Worker, p: PosId) -> bool
 
 /// Gives the first of two workers two hints, and runs the second one for so many turns. Answers how it ended, and
 /// whether the first finds the words of the hints, and then of another position, dirty.
-fn other(alloc: Global, out: &mut Answer, s: &System, n: &[u64]) -> Result<()> {
-    let graph = dependents(alloc, s)?;
-    let (words, mut team) = opened(alloc, s, &graph, 2)?;
-    let mut first = team.remove(0);
-    let mut second = team.remove(0);
-    give(&words, &mut first, place(n, 1));
-    give(&words, &mut first, place(n, 2));
-    out.push(run_one(&words, &mut second, at(n, 0)));
-    let is_left = finds_dirty(&words, &mut first, place(n, 1))
-        || finds_dirty(&words, &mut first, place(n, 2));
-    out.push(u64::from(is_left));
+fn run_second(
+    line: &mut Line,
+    words: &LatticeWords,
+    first: &mut Worker,
+    second: &mut Worker,
+    n: &[u64],
+)
+    requires first { IsWorkerOf words.now first.old }
+    requires second { IsWorkerOf words.now second.old }
+{
+    give(words, first, place(n, 1));
+    give(words, first, place(n, 2));
+    line.push(code(run_worker(words, second, at(n, 0), &Still)));
+    let is_left = finds_dirty(words, first, place(n, 1)) || finds_dirty(words, first, place(n, 2));
+    line.push(u64::from(is_left));
     if !is_left {
-        out.push(u64::from(finds_dirty(&words, &mut first, place(n, 3))));
+        line.push(u64::from(finds_dirty(words, first, place(n, 3))));
     }
-    Ok(())
+}
+
+/// Runs the second of two workers over the system.
+pub(crate) fn run_other(alloc: Global, line: &mut Line, s: &System, graph: &DepGraph, n: &[u64])
+    requires { IsGraphOf s.now graph.now }
+{
+    let Ok((words, mut team)) = opened(alloc, s, graph, 2) else {
+        return line.lose();
+    };
+    if let [first, second] = team.as_mut_slice() {
+        run_second(line, &words, first, second, n);
+    }
+}
+
+fn put_ran(line: &mut Line, ran: &Ran) {
+    line.put_all(ran.words.as_slice());
+    for end in ran.ends.as_slice() {
+        line.push(code(*end));
+    }
 }
 
 /// Runs all of so many workers, each for so many turns. Answers the words that they leave, and how each ended.
-fn all<R: Threads + Sync>(
+pub(crate) fn run_each<R: Threads + Sync>(
     rt: &R,
     alloc: Global,
-    out: &mut Answer,
+    line: &mut Line,
     s: &System,
+    graph: &DepGraph,
     n: &[u64],
-) -> Result<()> {
+)
+    requires { IsGraphOf s.now graph.now }
+{
     let workers = small(n, 0);
     if workers == 0 || workers > 16 {
-        bail!("not 1 to 16 workers");
+        return line.put(" not 1 to 16 workers");
     }
-    let graph = dependents(alloc, s)?;
-    let ran = run_all(rt, alloc, s, &graph, workers as u8, at(n, 1), &Still)?;
-    put_all(out, ran.words.as_slice());
-    for end in ran.ends.as_slice() {
-        out.push(code(*end));
+    match run_all(rt, alloc, s, graph, workers as u8, at(n, 1), &Still) {
+        Ok(ran) => put_ran(line, &ran),
+        Err(NoMemory) => line.lose(),
     }
-    Ok(())
-}
-
-/// Answers a call of workers, if it is one.
-pub(crate) fn answer<R: Threads + Sync>(
-    rt: &R,
-    alloc: Global,
-    desk: &mut Desk,
-    call: &str,
-    n: &[u64],
-    out: &mut Answer,
-) -> Result<bool> {
-    match call {
-        "run_one" => alone(alloc, out, &desk.system, n)?,
-        "run_other" => other(alloc, out, &desk.system, n)?,
-        "run_all" => all(rt, alloc, out, &desk.system, n)?,
-        _ => return Ok(false),
-    }
-    Ok(true)
 }

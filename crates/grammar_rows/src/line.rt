@@ -22,6 +22,11 @@ impl Line {
         self.text.as_str()
     }
 
+    /// The line of a row that got no memory.
+    pub fn lose(&mut self) {
+        self.is_lost = true;
+    }
+
     pub fn put(&mut self, piece: &str) {
         if self.text.push_str(piece).is_err() {
             self.is_lost = true;

@@ -19,55 +19,51 @@ mod row;
 mod show;
 mod show_module;
 
-use attr_ids::NoMemory;
 use line::Line;
-use row::{Mode, Row};
 use std::alloc::Global;
 use std::io;
 
-/// Puts where the tree ends without each of the tokens.
-fn put_without_each(alloc: Global, line: &mut Line, row: &Row) -> Result<(), NoMemory> {
-    for place in 0..outcome::count(alloc, row.text.as_slice())? {
-        let text = outcome::without(alloc, row.text.as_slice(), place)?;
-        line.blank();
-        outcome::read(alloc, row.production.as_str(), row.at, text.as_slice())?.put_short(line);
+/// Puts the answer to a row: what is to be done, with which production and of which text.
+fn put_answer(alloc: Global, line: &mut Line, mode: &str, production: &str, text: &[u8]) {
+    let (name, at) = row::place(production);
+    match mode {
+        "end" => outcome::read(alloc, name, at, text).put_whole(line),
+        "drop" => outcome::put_without_each(alloc, line, name, at, text),
+        "show" => show::put_shown(alloc, line, name, text),
+        "words" => outcome::put_words(alloc, line, text),
+        _ => line.put("no row"),
     }
-    Ok(())
 }
 
-/// Puts the answer to a row.
-fn put_answer(alloc: Global, line: &mut Line, row: &Row) -> Result<(), NoMemory> {
-    let production = row.production.as_str();
-    let text = row.text.as_slice();
-    match row.mode {
-        Mode::End => outcome::read(alloc, production, row.at, text)?.put_whole(line),
-        Mode::Drop => put_without_each(alloc, line, row)?,
-        Mode::Show => show::put_shown(alloc, line, production, text)?,
-        Mode::Words => outcome::put_words(alloc, line, text)?,
-    }
-    Ok(())
-}
-
-/// The line that is printed for a line of the input.
-fn line_for(alloc: Global, text: &str) -> Result<Line, NoMemory> {
-    let mut line = Line::new(alloc);
+/// Puts what is printed for a line of the input.
+fn put_line(alloc: Global, line: &mut Line, text: &str) {
     if text.is_empty() || text.starts_with(';') {
-        line.put(text);
-        return Ok(line);
+        return line.put(text);
     }
-    match row::parse(alloc, text)? {
-        Some(row) => put_answer(alloc, &mut line, &row)?,
-        None => line.put("no row"),
+    let Some((mode, rest)) = text.split_once(' ') else {
+        return line.put("no row");
+    };
+    let Some((production, written)) = rest.split_once(' ') else {
+        return line.put("no row");
+    };
+    match row::text_of(alloc, written) {
+        Some(text) => put_answer(alloc, line, mode, production, &text),
+        None => line.lose(),
     }
-    Ok(line)
+}
+
+fn print(rt: &HostRuntime, text: &str) -> io::Result<()> {
+    let mut line = Line::new(rt.alloc());
+    put_line(rt.alloc(), &mut line, text);
+    if line.is_lost {
+        return println!(rt; "out of memory");
+    }
+    println!(rt; "{}", line.as_str())
 }
 
 fn main(rt: HostRuntime) -> io::Result<()> {
     for text in rt.lines(rt.alloc()) {
-        match line_for(rt.alloc(), text?.as_str()) {
-            Ok(line) if !line.is_lost => println!(rt; "{}", line.as_str())?,
-            _ => println!(rt; "out of memory")?,
-        }
+        print(&rt, text?.as_str())?;
     }
     Ok(())
 }

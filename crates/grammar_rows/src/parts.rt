@@ -9,39 +9,59 @@ use ir_parse_parts::{
 use ir_tree::Terminal;
 use std::alloc::Global;
 
-/// The place behind a tree; within it None where there is no tree, and None where no production has the name.
-type End = Option<Option<u32>>;
+/// Where a tree ends.
+#[derive(Clone, Copy)]
+pub enum End {
+    /// Before this token.
+    Before(u32),
+    /// There is no tree.
+    Nowhere,
+    /// No production has the name.
+    NoProduction,
+    /// Memory was refused.
+    Lost,
+}
 
 /// The place behind a tree, where there is one.
-fn behind<T: Drop>(answer: Result<Option<(T, u32)>, NoMemory>) -> Result<End, NoMemory> {
-    match answer? {
-        Some((_, next)) => Ok(Some(Some(next))),
-        None => Ok(Some(None)),
+fn behind<T: Drop>(answer: Result<Option<(T, u32)>, NoMemory>) -> End {
+    match answer {
+        Ok(Some((_, next))) => End::Before(next),
+        Ok(None) => End::Nowhere,
+        Err(NoMemory) => End::Lost,
     }
 }
 
 /// The place behind a list, which may be empty.
-fn behind_all<T: Drop>(answer: Result<(T, u32), NoMemory>) -> Result<End, NoMemory> {
-    let (_, next) = answer?;
-    Ok(Some(Some(next)))
+fn behind_all<T: Drop>(answer: Result<(T, u32), NoMemory>) -> End {
+    match answer {
+        Ok((_, next)) => End::Before(next),
+        Err(NoMemory) => End::Lost,
+    }
+}
+
+fn ended(next: Option<u32>) -> End {
+    match next {
+        Some(next) => End::Before(next),
+        None => End::Nowhere,
+    }
 }
 
 /// The place behind leaves, and behind leaves that may be missing.
-fn leaf(alloc: Global, name: &str, toks: &[Terminal], at: u32) -> Result<End, NoMemory>
+fn leaf(alloc: Global, name: &str, toks: &[Terminal], at: u32) -> End
     requires few { length toks.now < 2 ^ 32 }
 {
     match name {
         "[word]" => behind_all(Ok(optional(toks, Terminal::Word, at))),
         "[group]" => behind_all(Ok(optional(toks, Terminal::Group, at))),
-        "int|group" => Ok(Some(either(toks, Terminal::Int, Terminal::Group, at))),
-        "int|str" => Ok(Some(either(toks, Terminal::Int, Terminal::Str, at))),
+        "int|group" => ended(either(toks, Terminal::Int, Terminal::Group, at)),
+        "int|str" => ended(either(toks, Terminal::Int, Terminal::Str, at)),
         "group*" => behind_all(leaves(alloc, toks, Terminal::Group, at)),
-        _ => Ok(None),
+        _ => End::NoProduction,
     }
 }
 
 /// The place behind attributes, flags and attachments.
-fn attribute(alloc: Global, name: &str, toks: &[Terminal], at: u32) -> Result<End, NoMemory>
+fn attribute(alloc: Global, name: &str, toks: &[Terminal], at: u32) -> End
     requires few { length toks.now < 2 ^ 32 }
 {
     match name {
@@ -60,7 +80,7 @@ fn attribute(alloc: Global, name: &str, toks: &[Terminal], at: u32) -> Result<En
 }
 
 /// The place behind the production of this name from this token on.
-pub fn part(alloc: Global, name: &str, toks: &[Terminal], at: u32) -> Result<End, NoMemory>
+pub fn part(alloc: Global, name: &str, toks: &[Terminal], at: u32) -> End
     requires few { length toks.now < 2 ^ 32 }
 {
     match name {

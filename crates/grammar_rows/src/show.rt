@@ -1,6 +1,6 @@
 //! Parts of the trees of productions, as words.
 ghost use Rattle.std.specs.Prelude.{◌≤◌, ◌<◌, ◌^◌, length};
-ghost use Rattle.ir_token.specs.declared.TheConstants.{MAX_BYTES};
+ghost use Rattle.ir_token.specs.declared.TheConstants.{MAX_BYTES, MAX_TOKENS};
 ghost use Rattle.ir_token.specs.Lists.{AreTokens};
 
 use crate::line::Line;
@@ -9,127 +9,132 @@ use crate::show_module::{put_body, put_module};
 use attr_ids::NoMemory;
 use ir_parse_body::{body, terminals};
 use ir_parse_parts::{constant, fattr, ftype, rattrs};
-use ir_token::{MAX_BYTES, Tokens};
-use ir_tree::{Const, Fattr, Ftype, Rattr, Terminal};
+use ir_token::Tokens;
+use ir_tree::{Body, Const, Fattr, Ftype, Rattr, Terminal};
 use std::alloc::Global;
 
+/// A tree of which a part is put into a line.
+trait Shown {
+    fn put(&self, line: &mut Line);
+}
+
 /// The first token of a getelementptr, and how many flags and how many operands it has.
-fn put_const(line: &mut Line, found: &Const) {
-    match found {
-        Const::GetElementPtr {
+impl Shown for Const {
+    fn put(&self, line: &mut Line) {
+        let Const::GetElementPtr {
             op,
             flags,
             operands,
             ..
-        } => {
-            line.token("getelementptr ", *op);
-            line.put(", ");
-            line.count(flags.len(), " flags, ");
-            line.count(operands.len(), " operands");
-        }
-        _ => line.put("another constant"),
+        } = self
+        else {
+            return line.put("another constant");
+        };
+        line.token("getelementptr ", *op);
+        line.put(", ");
+        line.count(flags.len(), " flags, ");
+        line.count(operands.len(), " operands")
     }
 }
 
 /// How many tokens and parentheses stand directly in the parentheses of an attribute, and where it closes.
-fn put_fattr(line: &mut Line, found: &Fattr) {
-    match found {
-        Fattr::Bracket { inside, close, .. } => {
-            line.count(inside.len(), " inside");
-            line.token(", close ", *close);
-        }
-        _ => line.put("no parentheses"),
+impl Shown for Fattr {
+    fn put(&self, line: &mut Line) {
+        let Fattr::Bracket { inside, close, .. } = self else {
+            return line.put("no parentheses");
+        };
+        line.count(inside.len(), " inside");
+        line.token(", close ", *close)
     }
 }
 
 /// The number of bytes of an alignment between parentheses, and where it closes.
-fn put_rattr(line: &mut Line, found: &Rattr) {
-    match found {
-        Rattr::AlignIn { bytes, close, .. } => {
-            line.token("align of ", *bytes);
-            line.token(", close ", *close);
+impl Shown for Rattr {
+    fn put(&self, line: &mut Line) {
+        match self {
+            Rattr::AlignIn { bytes, close, .. } => {
+                line.token("align of ", *bytes);
+                line.token(", close ", *close)
+            }
+            Rattr::Align { bytes, .. } => line.token("align of ", *bytes),
+            Rattr::Fattr(_) => line.put("fattr"),
         }
-        Rattr::Align { bytes, .. } => line.token("align of ", *bytes),
-        Rattr::Fattr(_) => line.put("fattr"),
     }
 }
 
 /// How many types are listed, and where dots stand behind them.
-fn put_ftype(line: &mut Line, found: &Ftype) {
-    match found {
-        Ftype::Listed { types, dots } => {
-            line.count(types.len(), " types, ");
-            match dots {
-                Some(dots) => line.token("dots ", *dots),
-                None => line.put("no dots"),
-            }
+impl Shown for Ftype {
+    fn put(&self, line: &mut Line) {
+        let Ftype::Listed { types, dots } = self else {
+            return line.put("no types");
+        };
+        line.count(types.len(), " types, ");
+        match dots {
+            Some(dots) => line.token("dots ", *dots),
+            None => line.put("no dots"),
         }
-        _ => line.put("no types"),
     }
 }
 
-/// What the last of the attributes of a parameter is.
+impl Shown for Body {
+    fn put(&self, line: &mut Line) {
+        put_body(line, self)
+    }
+}
+
+/// Puts a part of a tree, if there is one.
+fn put_found<T: Shown + Drop>(line: &mut Line, answer: Result<Option<(T, u32)>, NoMemory>) {
+    match answer {
+        Ok(Some((found, _))) => found.put(line),
+        Ok(None) => line.put("none"),
+        Err(NoMemory) => line.lose(),
+    }
+}
+
+/// Puts the last of the attributes of a parameter.
 fn put_last(line: &mut Line, found: &[Rattr]) {
     match found.last() {
-        Some(last) => put_rattr(line, last),
+        Some(last) => last.put(line),
         None => line.put("no attributes"),
     }
 }
 
 /// Puts a part of the tree of a production, which begins at the first token.
-fn put_part(
-    alloc: Global,
-    line: &mut Line,
-    production: &str,
-    toks: &[Terminal],
-) -> Result<(), NoMemory>
+fn put_part(alloc: Global, line: &mut Line, production: &str, toks: &[Terminal])
     requires few { length toks.now < 2 ^ 32 }
 {
     match production {
-        "const" => match constant(alloc, toks, 0)? {
-            Some((found, _)) => put_const(line, &found),
-            None => line.put("none"),
+        "const" => put_found(line, constant(alloc, toks, 0)),
+        "fattr" => put_found(line, fattr(alloc, toks, 0)),
+        "ftype" => put_found(line, ftype(alloc, toks, 0)),
+        "rattr*" => match rattrs(alloc, toks, 0) {
+            Ok((found, _)) => put_last(line, found.as_slice()),
+            Err(NoMemory) => line.lose(),
         },
-        "fattr" => match fattr(alloc, toks, 0)? {
-            Some((found, _)) => put_fattr(line, &found),
-            None => line.put("none"),
-        },
-        "ftype" => match ftype(alloc, toks, 0)? {
-            Some((found, _)) => put_ftype(line, &found),
-            None => line.put("none"),
-        },
-        "rattr*" => {
-            let (found, _) = rattrs(alloc, toks, 0)?;
-            put_last(line, found.as_slice());
-        }
-        "body" => match body(alloc, toks, 0)? {
-            Some((found, _)) => put_body(line, &found),
-            None => line.put("none"),
-        },
+        "body" => put_found(line, body(alloc, toks, 0)),
         _ => line.put("none"),
     }
-    Ok(())
 }
 
-/// Puts a part of the tree of a production that the text begins with.
-pub fn put_shown(
-    alloc: Global,
-    line: &mut Line,
-    production: &str,
-    text: &[u8],
-) -> Result<(), NoMemory> {
-    if text.len() > MAX_BYTES {
-        line.put("no tokens");
-        return Ok(());
-    }
-    let Some(toks) = read_tokens(alloc, text)? else {
-        line.put("no tokens");
-        return Ok(());
-    };
+/// Puts a part of the tree of a production that these tokens begin with.
+fn put_of(alloc: Global, line: &mut Line, production: &str, toks: &Tokens, text: &[u8])
+    requires small { length text.now ≤ MAX_BYTES }
+    requires tokens { AreTokens text.now toks.now }
+    requires few { length toks.now ≤ MAX_TOKENS }
+{
     if production == "module" {
-        put_module(alloc, line, &toks, text);
-        return Ok(());
+        return put_module(alloc, line, toks, text);
     }
-    let terminals = terminals(alloc, &toks, text)?;
-    put_part(alloc, line, production, terminals.as_slice())
+    match terminals(alloc, toks, text) {
+        Ok(all) => put_part(alloc, line, production, all.as_slice()),
+        Err(NoMemory) => line.lose(),
+    }
+}
+
+/// The same of the text alone.
+pub fn put_shown(alloc: Global, line: &mut Line, production: &str, text: &[u8]) {
+    match read_tokens(alloc, text) {
+        Ok(toks) => put_of(alloc, line, production, &toks, text),
+        Err(outcome) => outcome.put_whole(line),
+    }
 }

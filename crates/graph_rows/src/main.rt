@@ -9,14 +9,17 @@
 //! An empty line, and one that begins with `;`, is printed as it stands.
 #![tactic(auto)]
 
-use attr_ids::{NoMemory, Sequence};
+mod line;
+
+use attr_ids::NoMemory;
 use ir_graphs::{Cut, Need, claim, first_lacking, unshown};
+use line::Line;
 use row_lists::Rows;
-use std::alloc::{AllocError, Global};
+use std::alloc::Global;
 use std::io;
 
 /// The numbers of a text; a word that is none reads as the greatest.
-fn numbers(alloc: Global, text: &str) -> Result<Vec<u32>, AllocError> {
+fn numbers(alloc: Global, text: &str) -> Result<Vec<u32>, NoMemory> {
     let mut all = Vec::new(alloc);
     for word in text.split_whitespace() {
         all.push(word.parse::<u32>().unwrap_or(u32::MAX))?;
@@ -38,7 +41,7 @@ fn empty_rows<T: Copy>(alloc: Global, count: usize, fill: T) -> Result<Rows<T>, 
 /// Puts an entry into a row, if there is such a row.
 fn put<T: Copy>(rows: &mut Rows<T>, at: u32, entry: T) -> Result<(), NoMemory> {
     if (at as usize) < rows.len() {
-        rows.push(at as usize, entry)?;
+        return rows.push(at as usize, entry);
     }
     Ok(())
 }
@@ -54,112 +57,113 @@ fn graph(alloc: Global, all: &[u32], at: usize) -> Result<Rows<u32>, NoMemory> {
     Ok(g)
 }
 
-/// Puts numbers behind a text.
-fn show(text: &mut String, all: &[u32], alloc: Global) -> Result<(), AllocError> {
-    for number in all {
-        text.push_str(format!(in alloc; " {number}")?.as_str())?;
-    }
-    Ok(())
-}
-
-/// Puts the walk behind a text, or that there is none.
-fn show_first(
-    alloc: Global,
-    text: &mut String,
-    g: &Rows<u32>,
-    cut: Cut,
-    to: u32,
-) -> Result<(), AllocError> {
+/// Puts the walk, or that there is none.
+fn put_first(alloc: Global, line: &mut Line, g: &Rows<u32>, cut: Cut, to: u32) {
     if to as usize >= g.len() {
-        return text.push_str(" no node");
+        return line.put(" no node");
     }
     match first_lacking(alloc, g, cut, to) {
-        Ok(Some(path)) => show(text, path.as_slice(), alloc),
-        Ok(None) => text.push_str(" none"),
-        Err(_) => text.push_str(" no memory"),
+        Ok(Some(path)) => line.numbers(path.as_slice()),
+        Ok(None) => line.put(" none"),
+        Err(_) => line.lose(),
     }
 }
 
-/// How many needs are left open of one.
-fn count_open(alloc: Global, g: &Rows<u32>, needs: &Rows<Need>) -> Result<usize, NoMemory> {
-    let tree = claim(alloc, g)?;
+/// Puts whether a need is left open.
+fn put_open(alloc: Global, line: &mut Line, g: &Rows<u32>, needs: &Rows<Need>) {
+    let Ok(tree) = claim(alloc, g) else {
+        return line.lose();
+    };
     if needs.len() != g.len() {
-        return Ok(0);
+        return line.put(" shown");
     }
-    Ok(unshown(alloc, g, needs, &tree)?.len())
+    match unshown(alloc, g, needs, &tree) {
+        Ok(open) => line.put(if open.is_empty() { " shown" } else { " open" }),
+        Err(NoMemory) => line.lose(),
+    }
 }
 
-/// Whether the need of one node is left open.
-fn is_open(alloc: Global, g: &Rows<u32>, definition: u32, node: u32) -> Result<bool, NoMemory> {
+/// The need of one node.
+fn needs(alloc: Global, count: usize, definition: u32, node: u32) -> Result<Rows<Need>, NoMemory> {
     let need = Need {
         definition,
         label: 0,
     };
-    let mut needs = empty_rows(alloc, g.len(), need)?;
+    let mut needs = empty_rows(alloc, count, need)?;
     put(&mut needs, node, need)?;
-    Ok(count_open(alloc, g, &needs)? > 0)
+    Ok(needs)
 }
 
-fn parents(alloc: Global, g: &Rows<u32>) -> Result<Sequence<u32>, NoMemory> {
-    Ok(claim(alloc, g)?.parents)
+/// Puts the parent of each node of the claimed tree.
+fn put_parents(alloc: Global, line: &mut Line, g: &Rows<u32>) {
+    match claim(alloc, g) {
+        Ok(tree) => line.numbers(tree.parents.as_slice()),
+        Err(_) => line.lose(),
+    }
 }
 
-/// Puts the answer to a question behind a text.
-fn answer(alloc: Global, text: &mut String, question: &str, n: &[u32]) -> Result<(), AllocError> {
+/// Puts the answer to a question on a graph.
+fn answer_on(alloc: Global, line: &mut Line, g: &Rows<u32>, question: &str, n: &[u32]) {
+    let (first, second) = (number(n, 0), number(n, 1));
     match question {
-        "node" => {
-            let Ok(g) = graph(alloc, n, 2) else {
-                return text.push_str(" no memory")
-            };
-            show_first(alloc, text, &g, Cut::Node(number(n, 0)), number(n, 1))
-        }
+        "node" => put_first(alloc, line, g, Cut::Node(first), second),
         "edge" => {
-            let Ok(g) = graph(alloc, n, 3) else {
-                return text.push_str(" no memory")
+            let cut = Cut::Edge {
+                from: first,
+                place: second,
             };
-            let (from, place) = (number(n, 0), number(n, 1));
-            show_first(alloc, text, &g, Cut::Edge { from, place }, number(n, 2))
+            put_first(alloc, line, g, cut, number(n, 2))
         }
-        "needs" => {
-            let Ok(g) = graph(alloc, n, 2) else {
-                return text.push_str(" no memory")
-            };
-            match is_open(alloc, &g, number(n, 0), number(n, 1)) {
-                Ok(true) => text.push_str(" open"),
-                Ok(false) => text.push_str(" shown"),
-                Err(_) => text.push_str(" no memory"),
-            }
-        }
-        "tree" => {
-            let Ok(g) = graph(alloc, n, 0) else {
-                return text.push_str(" no memory")
-            };
-            match parents(alloc, &g) {
-                Ok(all) => show(text, all.as_slice(), alloc),
-                Err(_) => text.push_str(" no memory"),
-            }
-        }
-        _ => text.push_str(" no question"),
+        "needs" => match needs(alloc, g.len(), first, second) {
+            Ok(needs) => put_open(alloc, line, g, &needs),
+            Err(NoMemory) => line.lose(),
+        },
+        _ => put_parents(alloc, line, g),
     }
 }
 
-/// The line that is printed for a line of the input.
-fn line_for(alloc: Global, line: &str) -> Result<String, AllocError> {
-    let mut text = String::from_str(alloc, line)?;
-    if line.is_empty() || line.starts_with(';') {
-        return Ok(text);
+/// Puts the answer to a question.
+fn answer(alloc: Global, line: &mut Line, question: &str, n: &[u32]) {
+    let at = match question {
+        "node" | "needs" => 2,
+        "edge" => 3,
+        "tree" => 0,
+        _ => return line.put(" no question"),
+    };
+    match graph(alloc, n, at) {
+        Ok(g) => answer_on(alloc, line, &g, question, n),
+        Err(NoMemory) => line.lose(),
     }
-    if let Some((question, rest)) = line.split_once(' ') {
-        text.push_str(" =")?;
-        answer(alloc, &mut text, question, numbers(alloc, rest)?.as_slice())?;
+}
+
+/// Puts what is printed for a line of the input.
+fn put_line(alloc: Global, line: &mut Line, text: &str) {
+    line.put(text);
+    if text.is_empty() || text.starts_with(';') {
+        return;
     }
-    Ok(text)
+    let Some((question, rest)) = text.split_once(' ') else {
+        return;
+    };
+    line.put(" =");
+    match numbers(alloc, rest) {
+        Ok(n) => answer(alloc, line, question, n.as_slice()),
+        Err(NoMemory) => line.lose(),
+    }
+}
+
+fn print(rt: &HostRuntime, text: &str) -> io::Result<()> {
+    let mut line = Line::new(rt.alloc());
+    put_line(rt.alloc(), &mut line, text);
+    if line.is_lost {
+        return println!(rt; "no memory");
+    }
+    println!(rt; "{}", line.as_str())
 }
 
 fn main(rt: HostRuntime) -> io::Result<()> {
-    for line in rt.lines(rt.alloc()) {
-        let text = line_for(rt.alloc(), line?.as_str())?;
-        println!(rt; "{text}")?;
+    for text in rt.lines(rt.alloc()) {
+        print(&rt, text?.as_str())?;
     }
     Ok(())
 }

@@ -1,7 +1,9 @@
 //! The module that the lines put together.
 use crate::calls::{NO_ATTRS, NO_FUNC_ATTRS};
 use crate::instrs::add_instr;
+use crate::line::Line;
 use crate::operands::{operand, operand_if};
+use crate::types::add_type;
 use crate::words::{id, number, ty, word};
 use attr_ids::{BlockId, FuncId, NoMemory, Offsets, SegId, Sequence, Span, Text, TypeId, ValueId};
 use ir_module::{
@@ -114,14 +116,15 @@ fn linked(alloc: Global, at: u32, words: &mut SplitWhitespace<'_>) -> GlobalVar 
 }
 
 impl Desk {
-    pub(crate) fn new(alloc: Global) -> Desk {
-        Desk {
+    pub(crate) fn new(alloc: Global) -> Result<Box<Desk>, NoMemory> {
+        let desk = Desk {
             module: empty_module(alloc),
             line: 0,
             params: Params::new(alloc),
             extra: Operands::new(alloc),
             instrs: Instrs::new(alloc),
-        }
+        };
+        Ok(Box::new(alloc, desk)?)
     }
 
     fn add_param(&mut self, words: &mut SplitWhitespace<'_>) -> Result<(), NoMemory> {
@@ -182,31 +185,48 @@ impl Desk {
         }
     }
 
+    /// Adds an entry to a table of the module, or puts another one in its place; answers whether the line says so.
+    fn enter(
+        &mut self,
+        alloc: Global,
+        entry: &str,
+        words: &mut SplitWhitespace<'_>,
+        line: &mut Line,
+    ) -> bool {
+        let at = self.line;
+        match entry {
+            "global" => line.keep(self.module.globals.push(global(alloc, at, words))),
+            "linked" => line.keep(self.module.globals.push(linked(alloc, at, words))),
+            "block" => line.keep(self.module.blocks.push(block(alloc, words))),
+            "seg" => {
+                let seg = self.seg(alloc, id(words));
+                line.keep(self.module.segs.push(seg));
+            }
+            "value" => line.keep(self.module.values.push(value(words))),
+            "put" => self.put(alloc, words),
+            _ => return false,
+        }
+        true
+    }
+
     /// Does what a line says that adds an entry; answers whether it is such a line.
     pub(crate) fn add(
         &mut self,
         alloc: Global,
         entry: &str,
         words: &mut SplitWhitespace<'_>,
-    ) -> Result<bool, NoMemory> {
-        let at = self.line;
+        line: &mut Line,
+    ) -> bool {
+        self.line = self.line.saturating_add(1);
         match entry {
-            "do" => add_instr(alloc, at, &mut self.instrs, words)?,
-            "param" => self.add_param(words)?,
-            "extra" => self.extra.push(operand(words))?,
-            "func" => self.add_func(alloc, words)?,
-            "global" => self.module.globals.push(global(alloc, at, words))?,
-            "linked" => self.module.globals.push(linked(alloc, at, words))?,
-            "block" => self.module.blocks.push(block(alloc, words))?,
-            "seg" => {
-                let seg = self.seg(alloc, id(words));
-                self.module.segs.push(seg)?;
-            }
-            "value" => self.module.values.push(value(words))?,
-            "part" => self.module.parts.push(operand(words))?,
-            "put" => self.put(alloc, words),
-            _ => return Ok(false),
+            "type" => line.keep(add_type(alloc, self.line, &mut self.module, words)),
+            "do" => line.keep(add_instr(alloc, self.line, &mut self.instrs, words)),
+            "param" => line.keep(self.add_param(words)),
+            "extra" => line.keep(self.extra.push(operand(words))),
+            "part" => line.keep(self.module.parts.push(operand(words))),
+            "func" => line.keep(self.add_func(alloc, words)),
+            _ => return self.enter(alloc, entry, words, line),
         }
-        Ok(true)
+        true
     }
 }

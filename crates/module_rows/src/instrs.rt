@@ -3,7 +3,7 @@ use crate::calls::call;
 use crate::operands::{operand, operand_if};
 use crate::words::{id, number, ty, word};
 use attr_ids::{BlockId, NoMemory, Span, TypeId, ValueId};
-use ir_module::{Arm, Arms, Case, Cases, Clause, Clauses, Instr, Instrs, Op, Operands, Written};
+use ir_module::{Arm, Case, Clause, Clauses, Instr, Instrs, Op, ShortList, Written};
 use ir_ops::{BinOp, CastOp, Pred};
 use std::alloc::Global;
 use std::str::SplitWhitespace;
@@ -90,41 +90,47 @@ fn simple(name: &str, words: &mut SplitWhitespace<'_>) -> Op {
     }
 }
 
-fn rest(alloc: Global, words: &mut SplitWhitespace<'_>) -> Result<Operands, NoMemory> {
-    let mut list = Operands::new(alloc);
-    for _ in 0..u64::MAX {
-        let Some(w) = operand_if(words) else {
-            break;
-        };
-        list.push(w)?;
-    }
-    Ok(list)
+/// What begins with an operand, in a list.
+trait Entry: Copy + Default {
+    /// The entry that goes on behind its operand.
+    fn behind(first: Written, words: &mut SplitWhitespace<'_>) -> Self;
 }
 
-fn arms(alloc: Global, words: &mut SplitWhitespace<'_>) -> Result<Arms, NoMemory> {
-    let mut list = Arms::new(alloc);
-    for _ in 0..u64::MAX {
-        let Some(val) = operand_if(words) else {
-            break;
-        };
-        list.push(Arm {
+impl Entry for Written {
+    fn behind(first: Written, _words: &mut SplitWhitespace<'_>) -> Written {
+        first
+    }
+}
+
+impl Entry for Arm {
+    fn behind(val: Written, words: &mut SplitWhitespace<'_>) -> Arm {
+        Arm {
             val,
             from: block(words),
-        })?;
+        }
     }
-    Ok(list)
 }
 
-fn cases(alloc: Global, words: &mut SplitWhitespace<'_>) -> Result<Cases, NoMemory> {
-    let mut list = Cases::new(alloc);
-    for _ in 0..u64::MAX {
-        let Some(val) = operand_if(words) else {
-            break;
-        };
-        list.push(Case {
+impl Entry for Case {
+    fn behind(val: Written, words: &mut SplitWhitespace<'_>) -> Case {
+        Case {
             val,
             to: block(words),
-        })?;
+        }
+    }
+}
+
+/// The entries to the end of the line.
+fn entries<T: Entry>(
+    alloc: Global,
+    words: &mut SplitWhitespace<'_>,
+) -> Result<ShortList<T>, NoMemory> {
+    let mut list = ShortList::new(alloc);
+    for _ in 0..u64::MAX {
+        let Some(first) = operand_if(words) else {
+            break;
+        };
+        list.push(T::behind(first, words))?;
     }
     Ok(list)
 }
@@ -144,10 +150,20 @@ fn clauses(
     Ok(list)
 }
 
+fn phi(alloc: Global, words: &mut SplitWhitespace<'_>) -> Result<Op, NoMemory> {
+    let arms = entries(alloc, words)?;
+    Ok(Op::Phi { arms })
+}
+
+fn plain_call(alloc: Global, words: &mut SplitWhitespace<'_>) -> Result<Op, NoMemory> {
+    let call = call(alloc, words)?;
+    Ok(Op::Call(call))
+}
+
 fn gep(alloc: Global, words: &mut SplitWhitespace<'_>) -> Result<Op, NoMemory> {
     let elem = ty(words);
     let base = operand(words);
-    let indices = rest(alloc, words)?;
+    let indices = entries(alloc, words)?;
     Ok(Op::Gep {
         elem,
         base,
@@ -160,7 +176,7 @@ fn gep(alloc: Global, words: &mut SplitWhitespace<'_>) -> Result<Op, NoMemory> {
 fn switch(alloc: Global, words: &mut SplitWhitespace<'_>) -> Result<Op, NoMemory> {
     let other = block(words);
     let on = operand(words);
-    let cases = cases(alloc, words)?;
+    let cases = entries(alloc, words)?;
     Ok(Op::Switch { on, other, cases })
 }
 
@@ -186,12 +202,10 @@ fn pad(alloc: Global, filter: bool, words: &mut SplitWhitespace<'_>) -> Result<O
 
 fn op(alloc: Global, name: &str, words: &mut SplitWhitespace<'_>) -> Result<Op, NoMemory> {
     match name {
-        "phi" => Ok(Op::Phi {
-            arms: arms(alloc, words)?,
-        }),
+        "phi" => phi(alloc, words),
         "gep" => gep(alloc, words),
         "switch" => switch(alloc, words),
-        "call" => Ok(Op::Call(call(alloc, words)?)),
+        "call" => plain_call(alloc, words),
         "invoke" => invoke(alloc, words),
         "pad" => pad(alloc, false, words),
         "filters" => pad(alloc, true, words),

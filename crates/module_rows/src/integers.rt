@@ -71,52 +71,37 @@ fn fits(width: u32, a: u64) -> bool
     a <= all_ones(width)
 }
 
-fn put_applied(line: &mut Line, width: u32, op: BinOp, a: u64, b: u64)
+/// The answer of an operation or a comparison on two numbers of the width.
+fn put_pair(line: &mut Line, width: u32, name: &str, a: u64, b: u64)
     requires { IsWidth width }
 {
-    if fits(width, a) && fits(width, b) {
-        put(line, apply_at(width, op, a, b));
+    if !fits(width, a) || !fits(width, b) {
+        return;
+    }
+    if let Some(op) = op_named(name) {
+        return put(line, apply_at(width, op, a, b));
+    }
+    match pred_named(name) {
+        Some(p) => line.hex(u64::from(compare_at(width, p, a, b))),
+        None => line.word("no such operation"),
     }
 }
 
-fn put_compared(line: &mut Line, width: u32, p: Pred, a: u64, b: u64)
-    requires { IsWidth width }
-{
-    if fits(width, a) && fits(width, b) {
-        line.hex(u64::from(compare_at(width, p, a, b)));
-    }
-}
-
-/// The answers of an operation on this number and each of the others.
-fn put_applied_row(line: &mut Line, width: u32, op: BinOp, a: u64, list: &[u64])
+/// The answers on this number and each of the others.
+fn put_row(line: &mut Line, width: u32, name: &str, a: u64, list: &[u64])
     requires { IsWidth width }
 {
     for b in list {
-        put_applied(line, width, op, a, *b);
+        put_pair(line, width, name, a, *b);
     }
 }
 
-fn put_compared_row(line: &mut Line, width: u32, p: Pred, a: u64, list: &[u64])
-    requires { IsWidth width }
-{
-    for b in list {
-        put_compared(line, width, p, a, *b);
-    }
-}
-
-fn put_all_applied(line: &mut Line, width: u32, op: BinOp, list: &[u64])
+/// The answers on each pair of numbers.
+fn put_pairs(line: &mut Line, width: u32, name: &str, list: &[u64])
     requires { IsWidth width }
 {
     for a in list {
-        put_applied_row(line, width, op, *a, list);
-    }
-}
-
-fn put_all_compared(line: &mut Line, width: u32, p: Pred, list: &[u64])
-    requires { IsWidth width }
-{
-    for a in list {
-        put_compared_row(line, width, p, *a, list);
+        put_row(line, width, name, *a, list);
     }
 }
 
@@ -134,19 +119,6 @@ fn put_known(line: &mut Line, width: u32, op: BinOp, a: u64, b: u64)
         64 => put(line, apply::<64>(op, a, b)),
         _ => {}
     }
-}
-
-/// Answers an operation or a comparison on each pair of numbers.
-fn put_named(line: &mut Line, width: u32, name: &str, list: &[u64])
-    requires { IsWidth width }
-{
-    if let Some(op) = op_named(name) {
-        return put_all_applied(line, width, op, list);
-    }
-    if let Some(p) = pred_named(name) {
-        return put_all_compared(line, width, p, list);
-    }
-    line.word("no such operation")
 }
 
 /// A conversion to a narrower or a wider number.
@@ -200,39 +172,27 @@ fn width(words: &mut SplitWhitespace<'_>) -> Option<u32>
 }
 
 /// `int 8 Shl 2 0 1`: an operation or a comparison on each pair of two numbers.
-fn ask_int(
-    alloc: Global,
-    words: &mut SplitWhitespace<'_>,
-    line: &mut Line,
-) -> Result<(), NoMemory> {
+fn ask_int(alloc: Global, words: &mut SplitWhitespace<'_>, line: &mut Line) {
     let Some(width) = width(words) else {
-        line.word("no such width");
-        return Ok(());
+        return line.word("no such width");
     };
     let name = word(words);
-    let list = operands(alloc, words)?;
-    put_named(line, width, name, &list);
-    Ok(())
+    let Ok(list) = operands(alloc, words) else {
+        return line.lose();
+    };
+    put_pairs(line, width, name, &list)
 }
 
 /// `cast 8 16 signed 2 0 ff`: numbers of the first width at the second.
-fn ask_cast(
-    alloc: Global,
-    words: &mut SplitWhitespace<'_>,
-    line: &mut Line,
-) -> Result<(), NoMemory> {
-    let Some(from) = width(words) else {
-        line.word("no such width");
-        return Ok(());
-    };
-    let Some(to) = width(words) else {
-        line.word("no such width");
-        return Ok(());
+fn ask_cast(alloc: Global, words: &mut SplitWhitespace<'_>, line: &mut Line) {
+    let (Some(from), Some(to)) = (width(words), width(words)) else {
+        return line.word("no such width");
     };
     let is_signed = word(words) == "signed";
-    let list = operands(alloc, words)?;
-    put_all_cast(line, from, to, is_signed, &list);
-    Ok(())
+    let Ok(list) = operands(alloc, words) else {
+        return line.lose();
+    };
+    put_all_cast(line, from, to, is_signed, &list)
 }
 
 /// `known 8 Shl 1 8`: an operation at a width that the compiler knows.
@@ -252,12 +212,12 @@ pub(crate) fn ask(
     question: &str,
     words: &mut SplitWhitespace<'_>,
     line: &mut Line,
-) -> Result<bool, NoMemory> {
+) -> bool {
     match question {
-        "int" => ask_int(alloc, words, line)?,
-        "cast" => ask_cast(alloc, words, line)?,
+        "int" => ask_int(alloc, words, line),
+        "cast" => ask_cast(alloc, words, line),
         "known" => ask_known(words, line),
-        _ => return Ok(false),
+        _ => return false,
     }
-    Ok(true)
+    true
 }

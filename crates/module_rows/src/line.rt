@@ -11,41 +11,51 @@ pub(crate) struct Line {
 }
 
 impl Line {
-    /// The line as it was asked.
-    pub(crate) fn new(alloc: Global, asked: &str) -> Result<Line, NoMemory> {
-        let text = String::from_str(alloc, asked)?;
-        Ok(Line {
+    pub(crate) fn new(alloc: Global) -> Line {
+        Line {
             alloc,
-            text,
+            text: String::new(alloc),
             is_lost: false,
-        })
+        }
     }
 
     pub(crate) fn as_str(&self) -> &str {
         self.text.as_str()
     }
 
-    fn piece(&mut self, piece: &str) {
+    /// The line of a question that got no memory.
+    pub(crate) fn lose(&mut self) {
+        self.is_lost = true;
+    }
+
+    /// The line of one that ended so.
+    pub(crate) fn keep(&mut self, end: Result<(), NoMemory>) {
+        if end.is_err() {
+            self.is_lost = true;
+        }
+    }
+
+    fn put(&mut self, piece: &str) {
         if self.text.push_str(piece).is_err() {
             self.is_lost = true;
         }
     }
 
     pub(crate) fn word(&mut self, word: &str) {
-        self.piece(" ");
-        self.piece(word);
+        self.put(" ");
+        self.put(word);
     }
 
     pub(crate) fn number(&mut self, n: u64) {
-        match format!(in self.alloc; "{n}") {
-            Ok(text) => self.word(text.as_str()),
+        match format!(in self.alloc; " {n}") {
+            Ok(text) => self.put(text.as_str()),
             Err(_) => self.is_lost = true,
         }
     }
 
     pub(crate) fn hex(&mut self, n: u64) {
-        match format!(in self.alloc; "{n:x}") {
-            Ok(text) => self.word(text.as_str()),
+        match format!(in self.alloc; " {n:x}") {
+            Ok(text) => self.put(text.as_str()),
             Err(_) => self.is_lost = true,
         }
     }

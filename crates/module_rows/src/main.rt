@@ -42,6 +42,7 @@ mod words;
 
 use attr_ids::NoMemory;
 use desk::Desk;
+use ir_module::Module;
 use line::Line;
 use std::alloc::Global;
 use std::io;
@@ -51,69 +52,62 @@ use words::word;
 /// Answers a question; answers whether it is one.
 fn ask(
     alloc: Global,
-    desk: &Desk,
+    m: &Module,
     question: &str,
     words: &mut SplitWhitespace<'_>,
     line: &mut Line,
-) -> Result<bool, NoMemory> {
-    Ok(
-        integers::ask(alloc, question, words, line)?
-            || asks::ask(&desk.module, question, words, line)
-            || uses_of::ask(alloc, &desk.module, question, words, line)?
-            || rules::ask(alloc, &desk.module, question, words, line)?
-            || verdicts::ask(alloc, &desk.module, question, line)?
-            || numbered::ask(alloc, &desk.module, question, words, line)?
-            || types::ask(&desk.module.types, question, words, line),
-    )
+) -> bool {
+    integers::ask(alloc, question, words, line)
+        || asks::ask(m, question, words, line)
+        || uses_of::ask(alloc, m, question, words, line)
+        || rules::ask(alloc, m, question, words, line)
+        || verdicts::ask(alloc, m, question, line)
+        || numbered::ask(alloc, m, question, words, line)
+        || types::ask(&m.types, question, words, line)
 }
 
-/// Adds the entry of a line; answers whether there is one.
-fn add(
-    alloc: Global,
-    desk: &mut Desk,
-    entry: &str,
-    words: &mut SplitWhitespace<'_>,
-) -> Result<bool, NoMemory> {
-    desk.line = desk.line.saturating_add(1);
-    match entry {
-        "clear" => *desk = Desk::new(alloc),
-        "type" => types::add_type(alloc, desk.line, &mut desk.module, words)?,
-        _ => return desk.add(alloc, entry, words),
-    }
-    Ok(true)
-}
-
-/// The line that is printed for one of the input, if there is one.
-fn told(alloc: Global, desk: &mut Desk, text: &str) -> Result<Option<Line>, NoMemory> {
-    let mut line = Line::new(alloc, text)?;
+/// Does what a line says; answers whether it is printed.
+fn told(alloc: Global, desk: &mut Box<Desk>, text: &str, line: &mut Line) -> bool {
     let mut words = text.split_whitespace();
     let first = word(&mut words);
-    if first.starts_with('#') {
-        return Ok(Some(line));
+    if first == "clear" {
+        match Desk::new(alloc) {
+            Ok(new) => *desk = new,
+            Err(NoMemory) => line.lose(),
+        }
+        return line.is_lost;
     }
-    if add(alloc, desk, first, &mut words)? {
-        return Ok(None);
+    if first.starts_with('#') {
+        return true;
+    }
+    if desk.add(alloc, first, &mut words, line) {
+        return line.is_lost;
     }
     line.word("=");
-    if !ask(alloc, desk, first, &mut words, &mut line)? {
+    if !ask(alloc, &desk.module, first, &mut words, line) {
         line.word("?");
     }
-    Ok(Some(line))
+    true
 }
 
-/// Reads the lines and prints the answers.
-fn answer_all(rt: &HostRuntime, desk: &mut Desk) -> io::Result<()> {
-    for text in rt.lines(rt.alloc()) {
-        match told(rt.alloc(), desk, text?.as_str()) {
-            Ok(Some(line)) if !line.is_lost => println!(rt; "{}", line.as_str())?,
-            Ok(None) => {}
-            _ => println!(rt; "out of memory")?,
-        }
+/// Does what a line says, and prints it with the answer behind it, if it is a question or a heading.
+fn print(rt: &HostRuntime, desk: &mut Box<Desk>, text: &str) -> io::Result<()> {
+    let mut line = Line::new(rt.alloc());
+    if !told(rt.alloc(), desk, text, &mut line) {
+        return Ok(());
     }
-    Ok(())
+    if line.is_lost {
+        return println!(rt; "out of memory");
+    }
+    println!(rt; "{text}{}", line.as_str())
 }
 
 fn main(rt: HostRuntime) -> io::Result<()> {
-    let mut desk = Desk::new(rt.alloc());
-    answer_all(&rt, &mut desk)
+    let Ok(mut desk) = Desk::new(rt.alloc()) else {
+        return println!(rt; "out of memory");
+    };
+    for text in rt.lines(rt.alloc()) {
+        print(&rt, &mut desk, text?.as_str())?;
+    }
+    Ok(())
 }

@@ -1,5 +1,6 @@
 //! Questions about the positions of a module: all of them with their masks, one of them, and how many there are.
 ghost use Rattle.ir_module.specs.WellFormed.{HasFew};
+ghost use Rattle.ir_uses.specs.Uses.{AreUsesOf};
 ghost use Rattle.facts.specs.Bodies.{param_count};
 ghost use Rattle.std.specs.Prelude.{◌<◌, ℕ};
 
@@ -8,7 +9,7 @@ use crate::words::{id, word};
 use attr_ids::{FuncId, NoMemory, PosId, SegId, ValueId};
 use facts::Pos;
 use ir_module::{Module, has_few};
-use ir_uses::uses;
+use ir_uses::{Uses, uses};
 use positions::{PosRefusal, Positions, has_few_params};
 use std::alloc::Global;
 use std::str::SplitWhitespace;
@@ -85,26 +86,27 @@ fn put_answer(line: &mut Line, ps: &Positions, question: &str, words: &mut Split
     }
 }
 
+/// Answers a question with the uses of a module.
 fn ask_of(
     alloc: Global,
     m: &Module,
+    u: &Uses,
     question: &str,
     words: &mut SplitWhitespace<'_>,
     line: &mut Line,
-) -> Result<(), NoMemory>
+)
     requires few { HasFew m.now }
     requires few_params { (f : ℕ) → param_count m.now f < 256 }
+    requires uses { AreUsesOf m.now u.now }
 {
-    let u = uses(alloc, m)?;
-    match Positions::of(alloc, m, &u) {
+    match Positions::of(alloc, m, u) {
         Ok(ps) => put_answer(line, &ps, question, words),
         Err(PosRefusal::TooMany { words }) => {
             line.word("too many:");
             line.number(words);
         }
-        Err(PosRefusal::NoMemory) => return Err(NoMemory),
+        Err(PosRefusal::NoMemory) => line.lose(),
     }
-    Ok(())
 }
 
 /// Answers a question for positions; answers whether it is one.
@@ -114,13 +116,16 @@ pub(crate) fn ask(
     question: &str,
     words: &mut SplitWhitespace<'_>,
     line: &mut Line,
-) -> Result<bool, NoMemory> {
+) -> bool {
     if !matches!(question, "positions" | "position" | "position_count") {
-        return Ok(false);
+        return false;
     }
     if !has_few(m) || !has_few_params(m) {
-        return Ok(false);
+        return false;
     }
-    ask_of(alloc, m, question, words, line)?;
-    Ok(true)
+    match uses(alloc, m) {
+        Ok(u) => ask_of(alloc, m, &u, question, words, line),
+        Err(NoMemory) => line.lose(),
+    }
+    true
 }

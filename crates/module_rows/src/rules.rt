@@ -1,7 +1,7 @@
 //! Questions for the verifier's rules: `rule 13 0 2` is whether the instruction number 2 of segment 0 keeps V13, `header 3 1` whether
 //! the header of function 1 keeps V3, `variable 3 0` whether global 0 does, `counted 4` whether type 4 keeps V17, and `one 3 4` whether
 //! two types are one.
-ghost use Rattle.std.specs.Prelude.{ℕ, ◌≡◌, ◌<◌, ◌^◌, Some, length, slice_get};
+ghost use Rattle.std.specs.Prelude.{ℕ, ◌≡◌, ◌<◌, ◌^◌, Some, length, slice_get, IfOk};
 ghost use Rattle.ir_module.specs.WellFormed.{IsWellFormed, IsGlobalFormed};
 ghost use Rattle.ir_module.specs.Formed.{AreConstants};
 ghost use Rattle.ir_rules.specs.Named.{HasNames};
@@ -141,6 +141,14 @@ fn header_is_kept(m: &Module, numbers: &[u32], rule: u32, f: FuncId, func: &Func
     }
 }
 
+/// The same of the header of this number, if there is one.
+fn header_of(m: &Module, numbers: &[u32], rule: u32, f: u32) -> Option<bool>
+    requires { IsWellFormed m.now }
+{
+    let func = m.funcs.get(f as usize)?;
+    Some(header_is_kept(m, numbers, rule, FuncId(f), func))
+}
+
 /// Whether a global keeps a rule.
 fn global_is_kept(m: &Module, numbers: &[u32], rule: u32, global: &GlobalVar) -> bool
     requires formed { IsWellFormed m.now }
@@ -157,6 +165,20 @@ fn global_is_kept(m: &Module, numbers: &[u32], rule: u32, global: &GlobalVar) ->
     }
 }
 
+/// The same of the global of this number, if there is one.
+fn global_of(m: &Module, numbers: &[u32], rule: u32, g: u32) -> Option<bool>
+    requires { IsWellFormed m.now }
+{
+    let global = m.globals.get(g as usize)?;
+    Some(global_is_kept(m, numbers, rule, global))
+}
+
+/// Whether the type of this number keeps V17.
+fn is_countable(m: &Module, t: u32) -> Option<bool> {
+    let ty = m.types.as_slice().get(t as usize)?;
+    Some(has_fitting_count(ty))
+}
+
 fn put(line: &mut Line, is_kept: Option<bool>) {
     match is_kept {
         Some(is_kept) => line.word(if is_kept { "kept" } else { "broken" }),
@@ -164,48 +186,45 @@ fn put(line: &mut Line, is_kept: Option<bool>) {
     }
 }
 
-fn answer(
+/// Answers a question with these numbers.
+fn put_answer(
     alloc: Global,
     m: &Module,
+    known: &Known,
     question: &str,
-    words: &mut SplitWhitespace<'_>,
+    n: (u32, u32, u32),
     line: &mut Line,
-) -> Result<(), NoMemory>
-    requires { IsWellFormed m.now }
+)
+    requires formed { IsWellFormed m.now }
+    requires surveyed { IsSurveyOf m.now known.now.survey }
 {
-    let known = Known {
-        numbers: canonical(alloc, &m.types)?,
-        survey: gather(alloc, m)?,
-    };
     let numbers = known.numbers.as_slice();
-    let first = id(words);
-    let second = id(words);
     match question {
         "rule" => {
             let s = Spot {
-                seg: SegId(second),
-                at: id(words),
+                seg: SegId(n.1),
+                at: n.2,
             };
-            put(line, instr_keeps(alloc, m, &known, first, s)?);
-        }
-        "header" => match m.funcs.get(second as usize) {
-            Some(func) => {
-                let is_kept = header_is_kept(m, numbers, first, FuncId(second), func);
-                put(line, Some(is_kept))
+            match instr_keeps(alloc, m, known, n.0, s) {
+                Ok(is_kept) => put(line, is_kept),
+                Err(NoMemory) => line.lose(),
             }
-            None => put(line, None),
-        },
-        "variable" => match m.globals.get(second as usize) {
-            Some(global) => put(line, Some(global_is_kept(m, numbers, first, global))),
-            None => put(line, None),
-        },
-        "counted" => match m.types.as_slice().get(first as usize) {
-            Some(ty) => put(line, Some(has_fitting_count(ty))),
-            None => put(line, None),
-        },
-        _ => line.truth(are_one(numbers, TypeId(first), TypeId(second))),
+        }
+        "header" => put(line, header_of(m, numbers, n.0, n.1)),
+        "variable" => put(line, global_of(m, numbers, n.0, n.1)),
+        "counted" => put(line, is_countable(m, n.0)),
+        _ => line.truth(are_one(numbers, TypeId(n.0), TypeId(n.1))),
     }
-    Ok(())
+}
+
+/// What the rules of a module are asked with.
+fn gathered(alloc: Global, m: &Module) -> Result<Known, NoMemory>
+    requires { IsWellFormed m.now }
+    ensures { IfOk result (λ known. IsSurveyOf m.now known.survey) }
+{
+    let numbers = canonical(alloc, &m.types)?;
+    let survey = gather(alloc, m)?;
+    Ok(Known { numbers, survey })
 }
 
 /// Answers a question for a rule; answers whether it is one.
@@ -215,16 +234,18 @@ pub(crate) fn ask(
     question: &str,
     words: &mut SplitWhitespace<'_>,
     line: &mut Line,
-) -> Result<bool, NoMemory> {
-    match question {
-        "rule" | "header" | "variable" | "counted" | "one" => {
-            if is_well_formed(m) {
-                answer(alloc, m, question, words, line)?;
-            } else {
-                line.word("not well formed");
-            }
-            Ok(true)
-        }
-        _ => Ok(false),
+) -> bool {
+    if !matches!(question, "rule" | "header" | "variable" | "counted" | "one") {
+        return false;
     }
+    if !is_well_formed(m) {
+        line.word("not well formed");
+        return true;
+    }
+    let n = (id(words), id(words), id(words));
+    match gathered(alloc, m) {
+        Ok(known) => put_answer(alloc, m, &known, question, n, line),
+        Err(NoMemory) => line.lose(),
+    }
+    true
 }

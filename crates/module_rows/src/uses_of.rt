@@ -54,6 +54,22 @@ fn put_of_func(line: &mut Line, m: &Module, u: &Uses, f: u32)
     put_callers(line, u.callers(FuncId(f)))
 }
 
+fn put_answer(
+    line: &mut Line,
+    m: &Module,
+    u: &Uses,
+    question: &str,
+    words: &mut SplitWhitespace<'_>,
+)
+    requires { AreUsesOf m.now u.now }
+{
+    let number = id(words);
+    match question {
+        "uses" => put_of_value(line, m, u, number),
+        _ => put_of_func(line, m, u, number),
+    }
+}
+
 /// Answers a question for uses; answers whether it is one.
 pub(crate) fn ask(
     alloc: Global,
@@ -61,20 +77,13 @@ pub(crate) fn ask(
     question: &str,
     words: &mut SplitWhitespace<'_>,
     line: &mut Line,
-) -> Result<bool, NoMemory> {
-    let is_of_value = question == "uses";
-    if !is_of_value && question != "callers" {
-        return Ok(false);
+) -> bool {
+    if !matches!(question, "uses" | "callers") || !has_few(m) {
+        return false;
     }
-    if !has_few(m) {
-        return Ok(false);
+    match uses(alloc, m) {
+        Ok(u) => put_answer(line, m, &u, question, words),
+        Err(NoMemory) => line.lose(),
     }
-    let number = id(words);
-    let u = uses(alloc, m)?;
-    if is_of_value {
-        put_of_value(line, m, &u, number);
-    } else {
-        put_of_func(line, m, &u, number);
-    }
-    Ok(true)
+    true
 }

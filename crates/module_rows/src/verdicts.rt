@@ -1,8 +1,5 @@
 //! The question `verify`: whether the module is verified, or what is wrong with it.
-ghost use Rattle.ir_module.specs.WellFormed.{IsWellFormed};
-
 use crate::line::Line;
-use attr_ids::NoMemory;
 use ir_module::{Module, is_well_formed};
 use ir_paths::BlockList;
 use ir_verify::{Fault, verify};
@@ -19,46 +16,33 @@ fn put_rule(line: &mut Line, rule: u8, at: u32, path: &BlockList) {
     }
 }
 
-fn put(line: &mut Line, fault: Fault) -> Result<(), NoMemory> {
+fn put(line: &mut Line, fault: &Fault) {
     match fault {
-        Fault::Rule { rule, at, path } => put_rule(line, rule, at, &path),
+        Fault::Rule { rule, at, path } => put_rule(line, *rule, *at, path),
         Fault::Deep { count } => {
             line.word("deep");
-            line.number(count);
+            line.number(*count);
         }
         Fault::Huge { count } => {
             line.word("huge");
-            line.number(count);
+            line.number(*count);
         }
-        Fault::NoMemory => return Err(NoMemory),
+        Fault::NoMemory => line.word("no memory"),
     }
-    Ok(())
-}
-
-fn answer(alloc: Global, m: &Module, line: &mut Line) -> Result<(), NoMemory>
-    requires { IsWellFormed m.now }
-{
-    match verify(alloc, m) {
-        Ok(()) => line.word("verified"),
-        Err(fault) => put(line, fault)?,
-    }
-    Ok(())
 }
 
 /// Answers a question for the whole module; answers whether it is one.
-pub(crate) fn ask(
-    alloc: Global,
-    m: &Module,
-    question: &str,
-    line: &mut Line,
-) -> Result<bool, NoMemory> {
+pub(crate) fn ask(alloc: Global, m: &Module, question: &str, line: &mut Line) -> bool {
     if question != "verify" {
-        return Ok(false);
+        return false;
     }
-    if is_well_formed(m) {
-        answer(alloc, m, line)?;
-    } else {
+    if !is_well_formed(m) {
         line.word("not well formed");
+        return true;
     }
-    Ok(true)
+    match verify(alloc, m) {
+        Ok(()) => line.word("verified"),
+        Err(fault) => put(line, &fault),
+    }
+    true
 }

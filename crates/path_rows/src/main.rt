@@ -10,69 +10,76 @@
 //! A line that begins with `;` is a heading, and is printed as it stands.
 #![tactic(auto)]
 
+mod line;
 mod sketch;
 mod words;
 
 use attr_ids::{FuncId, NoMemory};
 use ir_module::{Module, is_well_formed};
-use ir_paths::{BlockList, UseFault, defined_on_every_path};
+use ir_paths::{UseFault, defined_on_every_path};
+use line::Line;
 use sketch::Sketch;
 use std::alloc::Global;
 use std::io;
 
-/// Puts the blocks of a path behind a text.
-fn show_path(alloc: Global, text: &mut String, path: &BlockList) -> Result<(), NoMemory> {
-    for block in path.as_slice() {
-        let number = block.0;
-        text.push_str(format!(in alloc; " {number}")?.as_str())?;
+/// Puts the number of a use that lacks its definition, and the blocks of the path.
+fn put_fault(line: &mut Line, fault: &UseFault) {
+    match fault {
+        UseFault::Missing { use_at, path } => {
+            line.put(" missing");
+            line.number(*use_at);
+            line.put(" on");
+            for block in path.as_slice() {
+                line.number(block.0);
+            }
+        }
+        UseFault::NoMemory => line.lose(),
     }
-    Ok(())
 }
 
-/// Puts what is answered for the first body of a module behind a text.
-fn answer(alloc: Global, text: &mut String, m: &Module) -> Result<(), NoMemory> {
+/// Puts what is answered for the first body of a module.
+fn put_answer(alloc: Global, line: &mut Line, m: &Module) {
     if m.funcs.is_empty() || !is_well_formed(m) {
-        text.push_str(" not well formed")?;
-        return Ok(());
+        return line.put(" not well formed");
     }
     match defined_on_every_path(alloc, m, FuncId(0)) {
-        Ok(()) => text.push_str(" defined")?,
-        Err(UseFault::Missing { use_at, path }) => {
-            text.push_str(format!(in alloc; " missing {use_at} on")?.as_str())?;
-            show_path(alloc, text, &path)?;
-        }
-        Err(UseFault::NoMemory) => return Err(NoMemory),
+        Ok(()) => line.put(" defined"),
+        Err(fault) => put_fault(line, &fault),
     }
-    Ok(())
 }
 
 /// The module of a line.
-fn module_of(alloc: Global, line: &str) -> Result<Module, NoMemory> {
-    let mut sketch = Sketch::new(alloc);
-    for word in line.split_whitespace() {
-        sketch.add(alloc, word)?;
-    }
-    sketch.finished(alloc)
+fn sketched(alloc: Global, text: &str) -> Result<Box<Sketch>, NoMemory> {
+    let mut sketch = Sketch::new(alloc)?;
+    sketch.add_all(alloc, text)?;
+    Ok(sketch)
 }
 
-/// The line that is printed for a line of the input.
-fn line_for(alloc: Global, line: &str) -> Result<String, NoMemory> {
-    let mut text = String::from_str(alloc, line)?;
-    if line.is_empty() || line.starts_with(';') {
-        return Ok(text);
+/// Puts what is printed for a line of the input.
+fn put_line(alloc: Global, line: &mut Line, text: &str) {
+    line.put(text);
+    if text.is_empty() || text.starts_with(';') {
+        return;
     }
-    text.push_str(" =")?;
-    let m = module_of(alloc, line)?;
-    answer(alloc, &mut text, &m)?;
-    Ok(text)
+    line.put(" =");
+    match sketched(alloc, text) {
+        Ok(sketch) => put_answer(alloc, line, &sketch.module),
+        Err(NoMemory) => line.lose(),
+    }
+}
+
+fn print(rt: &HostRuntime, text: &str) -> io::Result<()> {
+    let mut line = Line::new(rt.alloc());
+    put_line(rt.alloc(), &mut line, text);
+    if line.is_lost {
+        return println!(rt; "no memory");
+    }
+    println!(rt; "{}", line.as_str())
 }
 
 fn main(rt: HostRuntime) -> io::Result<()> {
-    for line in rt.lines(rt.alloc()) {
-        match line_for(rt.alloc(), line?.as_str()) {
-            Ok(text) => println!(rt; "{text}")?,
-            Err(NoMemory) => println!(rt; "no memory")?,
-        }
+    for text in rt.lines(rt.alloc()) {
+        print(&rt, text?.as_str())?;
     }
     Ok(())
 }

@@ -36,12 +36,10 @@ const NO_PARAM_ATTRS: ParamAttrs = ParamAttrs {
     bad: false,
 };
 
-/// The tables so far, and the instructions of the segment that is not ended.
+/// The module so far, and the instructions of the segment that is not ended.
 #[derive(Drop)]
 pub(crate) struct Sketch {
-    blocks: Blocks,
-    segs: Segs,
-    values: Values,
+    pub module: Module,
     instrs: Instrs,
     first_seg: u32,
     uses: u32,
@@ -52,49 +50,87 @@ fn count(length: usize) -> u32 {
     u32::try_from(length).unwrap_or(u32::MAX)
 }
 
-fn make_call(alloc: Global, args: Operands) -> Result<Call, NoMemory> {
-    let mut attrs = ParamAttrsList::new(alloc);
-    let mut places = Offsets::new(alloc);
-    for _ in args.as_slice() {
-        attrs.push(NO_PARAM_ATTRS)?;
-        places.push(0)?;
+fn empty_module(alloc: Global) -> Module {
+    Module {
+        types: TypeTable::new(alloc),
+        globals: Globals::new(alloc),
+        funcs: Funcs::new(alloc),
+        blocks: Blocks::new(alloc),
+        segs: Segs::new(alloc),
+        values: Values::new(alloc),
+        parts: Operands::new(alloc),
+        type_at: Offsets::new(alloc),
     }
-    let callee = Written {
-        val: Operand::Null,
-        ty: TYPE,
+}
+
+/// A function with all of the blocks.
+fn func(alloc: Global, block_count: u32) -> Func {
+    Func {
+        name: Text::new(alloc),
+        linkage: Linkage::Plain,
+        ret: TYPE,
+        ret_attrs: NO_PARAM_ATTRS,
+        params: Params::new(alloc),
+        variadic: false,
+        attrs: NO_ATTRS,
+        places: FuncPlaces { ret: 0, after: 0 },
+        personality: false,
+        extra: Operands::new(alloc),
+        token: Span { from: 0, to: 0 },
         at: 0,
-    };
-    Ok(Call {
+        first_block: 0,
+        block_count,
+    }
+}
+
+/// A call without arguments.
+fn bare_call(alloc: Global) -> Call {
+    Call {
         func_ty: FuncType {
             ret: TYPE,
             params: TypeList::new(alloc),
             variadic: false,
         },
-        callee,
-        args,
+        callee: Written {
+            val: Operand::Null,
+            ty: TYPE,
+            at: 0,
+        },
+        args: Operands::new(alloc),
         attrs: CallAttrs {
             func: NO_ATTRS,
             ret: NO_PARAM_ATTRS,
-            args: attrs,
+            args: ParamAttrsList::new(alloc),
         },
         places: CallPlaces {
             ret: 0,
             after: 0,
-            args: places,
+            args: Offsets::new(alloc),
         },
-    })
+    }
+}
+
+fn add_arg(call: &mut Call, arg: Written) -> Result<(), NoMemory> {
+    call.attrs.args.push(NO_PARAM_ATTRS)?;
+    call.places.args.push(0)?;
+    call.args.push(arg)
+}
+
+fn call_of(alloc: Global, arg: Written) -> Result<Call, NoMemory> {
+    let mut call = bare_call(alloc);
+    add_arg(&mut call, arg)?;
+    Ok(call)
 }
 
 impl Sketch {
-    pub(crate) fn new(alloc: Global) -> Sketch {
-        Sketch {
-            blocks: Blocks::new(alloc),
-            segs: Segs::new(alloc),
-            values: Values::new(alloc),
+    pub(crate) fn new(alloc: Global) -> Result<Box<Sketch>, NoMemory> {
+        let sketch = Sketch {
+            module: empty_module(alloc),
             instrs: Instrs::new(alloc),
             first_seg: 0,
             uses: 0,
-        }
+        };
+        Ok(Box::new(alloc, sketch)?)
     }
 
     /// A use of a result, by its number.
@@ -108,26 +144,14 @@ impl Sketch {
         }
     }
 
-    /// Puts an instruction at the end, and makes its result, if it has one.
-    fn push(&mut self, op: Op, has_result: bool) -> Result<(), NoMemory> {
-        let value = count(self.values.len());
-        let spot = Spot {
-            seg: SegId(count(self.segs.len())),
-            at: count(self.instrs.len()),
-        };
-        if has_result {
-            self.values.push(ValueInfo {
-                func: FuncId(0),
-                ty: TYPE,
-                def: Def::Instr(spot),
-            })?;
-        }
+    /// Puts an instruction without a result at the end.
+    fn push(&mut self, op: Op) -> Result<(), NoMemory> {
+        self.put(op, None)
+    }
+
+    fn put(&mut self, op: Op, made: Option<ValueId>) -> Result<(), NoMemory> {
         self.instrs.push(Instr {
-            result: if has_result {
-                Some(ValueId(value))
-            } else {
-                None
-            },
+            result: made,
             named: false,
             ty: TYPE,
             op,
@@ -135,23 +159,38 @@ impl Sketch {
         })
     }
 
+    /// Puts an instruction with a result at the end.
+    fn make(&mut self, op: Op) -> Result<(), NoMemory> {
+        let value = count(self.module.values.len());
+        let spot = Spot {
+            seg: SegId(count(self.module.segs.len())),
+            at: count(self.instrs.len()),
+        };
+        self.put(op, Some(ValueId(value)))?;
+        self.module.values.push(ValueInfo {
+            func: FuncId(0),
+            ty: TYPE,
+            def: Def::Instr(spot),
+        })
+    }
+
     fn end_seg(&mut self, alloc: Global) -> Result<(), NoMemory> {
         let instrs = mem::replace(&mut self.instrs, Instrs::new(alloc));
-        let block = BlockId(count(self.blocks.len()));
-        self.segs.push(Seg { block, instrs })
+        let block = BlockId(count(self.module.blocks.len()));
+        self.module.segs.push(Seg { block, instrs })
     }
 
     fn end_block(&mut self, alloc: Global) -> Result<(), NoMemory> {
         self.end_seg(alloc)?;
-        let end = count(self.segs.len());
-        self.blocks.push(Block {
+        let first_seg = self.first_seg;
+        let end = count(self.module.segs.len());
+        self.first_seg = end;
+        self.module.blocks.push(Block {
             func: FuncId(0),
             name: Text::new(alloc),
-            first_seg: self.first_seg,
-            seg_count: end.saturating_sub(self.first_seg),
-        })?;
-        self.first_seg = end;
-        Ok(())
+            first_seg,
+            seg_count: end.saturating_sub(first_seg),
+        })
     }
 
     /// The arms of a phi.
@@ -183,7 +222,7 @@ impl Sketch {
         let cases = self.cases(alloc, &all)?;
         let on = Written::default();
         let other = BlockId(at(&all, 0));
-        self.push(Op::Switch { on, other, cases }, false)
+        self.push(Op::Switch { on, other, cases })
     }
 
     fn add_branch(&mut self, alloc: Global, text: &str) -> Result<(), NoMemory> {
@@ -193,31 +232,32 @@ impl Sketch {
             yes: BlockId(at(&all, 0)),
             no: BlockId(at(&all, 1)),
         };
-        self.push(op, false)
+        self.push(op)
     }
 
     fn add_invoke(&mut self, alloc: Global, text: &str) -> Result<(), NoMemory> {
         let all = numbers(alloc, text)?;
-        let mut args = Operands::new(alloc);
-        if all.len() > 2 {
+        let (normal, unwind) = (BlockId(at(&all, 0)), BlockId(at(&all, 1)));
+        let call = if all.len() > 2 {
             let arg = self.operand(at(&all, 2));
-            args.push(arg)?;
-        }
-        let op = Op::Invoke {
-            call: make_call(alloc, args)?,
-            normal: BlockId(at(&all, 0)),
-            unwind: BlockId(at(&all, 1)),
+            call_of(alloc, arg)?
+        } else {
+            bare_call(alloc)
         };
-        self.push(op, true)
+        self.make(Op::Invoke {
+            call,
+            normal,
+            unwind,
+        })
     }
 
     /// Puts a terminator at the end, if the word is one.
     fn add_terminator(&mut self, alloc: Global, kind: char, rest: &str) -> Result<bool, NoMemory> {
         match kind {
-            'r' => self.push(Op::Unreachable, false)?,
+            'r' => self.push(Op::Unreachable)?,
             'j' => {
                 let to = BlockId(number(rest));
-                self.push(Op::Jump { to }, false)?;
+                self.push(Op::Jump { to })?;
             }
             'b' => self.add_branch(alloc, rest)?,
             's' => self.add_switch(alloc, rest)?,
@@ -229,19 +269,18 @@ impl Sketch {
     }
 
     fn add_call(&mut self, alloc: Global) -> Result<(), NoMemory> {
-        let call = make_call(alloc, Operands::new(alloc))?;
-        self.push(Op::Call(call), true)?;
+        self.make(Op::Call(bare_call(alloc)))?;
         self.end_seg(alloc)
     }
 
     fn add_phi(&mut self, alloc: Global, rest: &str) -> Result<(), NoMemory> {
         let arms = self.arms(alloc, rest)?;
-        self.push(Op::Phi { arms }, true)
+        self.make(Op::Phi { arms })
     }
 
     fn add_use(&mut self, rest: &str) -> Result<(), NoMemory> {
         let a = self.operand(number(rest));
-        self.push(Op::Freeze { a }, false)
+        self.push(Op::Freeze { a })
     }
 
     fn add_result(&mut self) -> Result<(), NoMemory> {
@@ -250,11 +289,11 @@ impl Sketch {
             count: None,
             align: None,
         };
-        self.push(op, true)
+        self.make(op)
     }
 
     /// Puts the instruction of a word at the end.
-    pub(crate) fn add(&mut self, alloc: Global, word: &str) -> Result<(), NoMemory> {
+    fn add(&mut self, alloc: Global, word: &str) -> Result<(), NoMemory> {
         let mut chars = word.chars();
         let kind = chars.next().unwrap_or(' ');
         let rest = chars.as_str();
@@ -269,37 +308,21 @@ impl Sketch {
         }
     }
 
-    /// The module.
-    pub(crate) fn finished(self, alloc: Global) -> Result<Module, NoMemory> {
-        let mut types = TypeTable::new(alloc);
-        types.add(alloc, IrType::Ptr)?;
-        let block_count = count(self.blocks.len());
-        let mut funcs = Funcs::new(alloc);
-        funcs.push(Func {
-            name: Text::new(alloc),
-            linkage: Linkage::Plain,
-            ret: TYPE,
-            ret_attrs: NO_PARAM_ATTRS,
-            params: Params::new(alloc),
-            variadic: false,
-            attrs: NO_ATTRS,
-            places: FuncPlaces { ret: 0, after: 0 },
-            personality: false,
-            extra: Operands::new(alloc),
-            token: Span { from: 0, to: 0 },
-            at: 0,
-            first_block: 0,
-            block_count,
-        })?;
-        Ok(Module {
-            types,
-            globals: Globals::new(alloc),
-            funcs,
-            blocks: self.blocks,
-            segs: self.segs,
-            values: self.values,
-            parts: Operands::new(alloc),
-            type_at: Offsets::from_slice(alloc, &[0])?,
-        })
+    /// Puts the function of all that was put at the end.
+    fn finish(&mut self, alloc: Global) -> Result<(), NoMemory> {
+        if self.module.types.len() == 0 {
+            self.module.types.add(alloc, IrType::Ptr)?;
+            self.module.type_at.push(0)?;
+        }
+        let block_count = count(self.module.blocks.len());
+        self.module.funcs.push(func(alloc, block_count))
+    }
+
+    /// Puts the instructions of all words of a text.
+    pub(crate) fn add_all(&mut self, alloc: Global, text: &str) -> Result<(), NoMemory> {
+        for word in text.split_whitespace() {
+            self.add(alloc, word)?;
+        }
+        self.finish(alloc)
     }
 }

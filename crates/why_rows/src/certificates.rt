@@ -1,10 +1,9 @@
 //! Certificates, and what is found of them.
 ghost use Rattle.std.specs.Prelude.{◌<◌, ◌^◌, length};
 
-use crate::answer::Answer;
 use crate::damage::{doubled, dropped, exchanged};
+use crate::line::Line;
 use crate::numbers::{at, place};
-use anyhow::{Result, bail};
 use attr_ids::NoMemory;
 use rule_terms::System;
 use std::alloc::Global;
@@ -14,58 +13,64 @@ use why_make::{WhyRefusal, explain};
 /// How many entries a list has here, at most.
 const MANY: usize = 100_000;
 
-/// The certificate of the system.
-fn explained(alloc: Global, s: &System) -> Result<EntryList> {
-    match explain(alloc, s) {
-        Ok(entries) => Ok(entries),
-        Err(WhyRefusal::TooMany { count }) => bail!("too many entries: {count}"),
-        Err(WhyRefusal::NoMemory) => bail!("out of memory"),
-    }
-}
-
 /// Answers each entry, as its position and its bits.
-fn put_entries(out: &mut Answer, entries: &EntryList) {
+fn put_entries(line: &mut Line, entries: &EntryList) {
     for entry in entries.as_slice() {
-        out.number(u64::from(entry.p.0));
-        out.number(entry.bits);
+        line.number(u64::from(entry.p.0));
+        line.number(entry.bits);
     }
 }
 
 /// Answers how many entries there are, and the numbers of the first and the last of their positions.
-fn put_size(out: &mut Answer, entries: &EntryList) {
-    out.number(entries.len() as u64);
+fn put_size(line: &mut Line, entries: &EntryList) {
+    line.number(entries.len() as u64);
     if let (Some(first), Some(last)) = (entries.as_slice().first(), entries.as_slice().last()) {
-        out.number(u64::from(first.p.0));
-        out.number(u64::from(last.p.0));
+        line.number(u64::from(first.p.0));
+        line.number(u64::from(last.p.0));
     }
 }
 
-/// Answers the verdict on a list; a Yes with the words that are left.
-fn judge(alloc: Global, s: &System, entries: &EntryList, out: &mut Answer) -> Result<(), NoMemory> {
-    if entries.len() >= MANY {
-        return Ok(());
-    }
-    match check(alloc, s, entries)? {
+/// Answers a verdict; a Yes with the words that are left.
+fn put_verdict(line: &mut Line, verdict: &Verdict) {
+    match verdict {
         Verdict::Yes { words } => {
-            out.word("yes");
+            line.put(" yes");
             for word in words.as_slice() {
-                out.number(*word);
+                line.number(*word);
             }
         }
         Verdict::No { at } => {
-            out.word("no");
-            out.number(u64::from(at));
+            line.put(" no");
+            line.number(u64::from(*at));
         }
         Verdict::Short { p } => {
-            out.word("short");
-            out.number(u64::from(p.0));
+            line.put(" short");
+            line.number(u64::from(p.0));
         }
     }
-    Ok(())
+}
+
+/// Answers the verdict on a list.
+fn judge(alloc: Global, s: &System, entries: &EntryList, line: &mut Line) {
+    if entries.len() >= MANY {
+        return;
+    }
+    match check(alloc, s, entries) {
+        Ok(verdict) => put_verdict(line, &verdict),
+        Err(NoMemory) => line.lose(),
+    }
+}
+
+/// Answers the verdict on a list, if there is one.
+fn judge_made(alloc: Global, s: &System, made: Result<EntryList, NoMemory>, line: &mut Line) {
+    match made {
+        Ok(entries) => judge(alloc, s, &entries, line),
+        Err(NoMemory) => line.lose(),
+    }
 }
 
 /// The entries that these numbers give, a position and bits each.
-fn listed(alloc: Global, n: &[u64]) -> Result<EntryList> {
+fn listed(alloc: Global, n: &[u64]) -> Result<EntryList, NoMemory> {
     let mut out = EntryList::new(alloc);
     for i in 0..n.len() / 2 {
         out.push(Entry {
@@ -76,33 +81,44 @@ fn listed(alloc: Global, n: &[u64]) -> Result<EntryList> {
     Ok(out)
 }
 
-/// Answers a call of certificates, if it is one.
-pub(crate) fn answer(
+/// Answers a call with the certificate of the system, if it is one.
+fn put_answer(
     alloc: Global,
     s: &System,
+    entries: &EntryList,
     call: &str,
-    n: &[u64],
-    out: &mut Answer,
-) -> Result<bool> {
-    let place = at(n, 0) as usize;
+    place: usize,
+    line: &mut Line,
+) -> bool {
+    let all = entries.as_slice();
     match call {
-        "explain" => put_entries(out, &explained(alloc, s)?),
-        "size" => put_size(out, &explained(alloc, s)?),
-        "check" => judge(alloc, s, &listed(alloc, n)?, out)?,
-        "whole" => judge(alloc, s, &explained(alloc, s)?, out)?,
-        "dropped" => {
-            let entries = explained(alloc, s)?;
-            judge(alloc, s, &dropped(alloc, entries.as_slice(), place)?, out)?;
-        }
-        "doubled" => {
-            let entries = explained(alloc, s)?;
-            judge(alloc, s, &doubled(alloc, entries.as_slice(), place)?, out)?;
-        }
-        "exchanged" => {
-            let entries = explained(alloc, s)?;
-            judge(alloc, s, &exchanged(alloc, entries.as_slice(), place)?, out)?;
-        }
-        _ => return Ok(false),
+        "explain" => put_entries(line, entries),
+        "size" => put_size(line, entries),
+        "whole" => judge(alloc, s, entries, line),
+        "dropped" => judge_made(alloc, s, dropped(alloc, all, place), line),
+        "doubled" => judge_made(alloc, s, doubled(alloc, all, place), line),
+        "exchanged" => judge_made(alloc, s, exchanged(alloc, all, place), line),
+        _ => return false,
     }
-    Ok(true)
+    true
+}
+
+/// Answers a call of certificates, if it is one.
+pub(crate) fn answer(alloc: Global, s: &System, call: &str, n: &[u64], line: &mut Line) -> bool {
+    if call == "check" {
+        judge_made(alloc, s, listed(alloc, n), line);
+        return true;
+    }
+    match explain(alloc, s) {
+        Ok(entries) => put_answer(alloc, s, &entries, call, at(n, 0) as usize, line),
+        Err(WhyRefusal::TooMany { count }) => {
+            line.put(" too many entries:");
+            line.number(count);
+            true
+        }
+        Err(WhyRefusal::NoMemory) => {
+            line.lose();
+            true
+        }
+    }
 }

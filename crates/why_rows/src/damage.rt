@@ -1,10 +1,10 @@
 //! Lists of entries that are damaged at one place.
-use anyhow::Result;
+use attr_ids::NoMemory;
 use std::alloc::Global;
 use why_check::{Entry, EntryList};
 
 /// The list without one entry.
-pub(crate) fn dropped(alloc: Global, entries: &[Entry], at: usize) -> Result<EntryList> {
+pub(crate) fn dropped(alloc: Global, entries: &[Entry], at: usize) -> Result<EntryList, NoMemory> {
     let mut out = EntryList::new(alloc);
     for (i, entry) in entries.iter().enumerate() {
         if i != at {
@@ -15,7 +15,7 @@ pub(crate) fn dropped(alloc: Global, entries: &[Entry], at: usize) -> Result<Ent
 }
 
 /// The list with one entry twice.
-pub(crate) fn doubled(alloc: Global, entries: &[Entry], at: usize) -> Result<EntryList> {
+pub(crate) fn doubled(alloc: Global, entries: &[Entry], at: usize) -> Result<EntryList, NoMemory> {
     let mut out = EntryList::new(alloc);
     for (i, entry) in entries.iter().enumerate() {
         out.push(*entry)?;
@@ -27,7 +27,11 @@ pub(crate) fn doubled(alloc: Global, entries: &[Entry], at: usize) -> Result<Ent
 }
 
 /// The list with one entry behind the next one.
-pub(crate) fn exchanged(alloc: Global, entries: &[Entry], at: usize) -> Result<EntryList> {
+pub(crate) fn exchanged(
+    alloc: Global,
+    entries: &[Entry],
+    at: usize,
+) -> Result<EntryList, NoMemory> {
     let mut out = EntryList::new(alloc);
     for (i, entry) in entries.iter().enumerate() {
         if i == at {

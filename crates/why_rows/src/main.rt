@@ -2,45 +2,59 @@
 //! line that comes back has behind it what the call answered. A line that begins with `#` is a heading.
 #![tactic(auto)]
 
-mod answer;
 mod certificates;
 mod damage;
+mod line;
 mod numbers;
 mod systems;
 
-use answer::Answer;
-use anyhow::{Result, bail};
-use attr_ids::WordList;
+use attr_ids::{NoMemory, WordList};
+use line::Line;
 use rule_terms::System;
 use std::alloc::Global;
+use std::io;
 
-/// A line and what came of it.
-fn told(alloc: Global, s: &mut System, line: &str) -> Result<String> {
-    let mut out = Answer::new(alloc, line)?;
-    let mut words = line.split_whitespace();
+/// Puts what comes of a line behind it.
+fn tell(alloc: Global, s: &mut System, text: &str, line: &mut Line) {
+    let mut words = text.split_whitespace();
     let Some(call) = words.next() else {
-        return out.whole();
+        return;
     };
     if call.starts_with('#') {
-        return out.whole();
+        return;
     }
-    let n = numbers::parsed(alloc, words)?;
-    out.word("=");
-    if !systems::answer(alloc, s, call, &n)?
-        && !certificates::answer(alloc, s, call, &n, &mut out)?
+    line.put(" =");
+    let Ok(n) = numbers::parsed(alloc, words) else {
+        return line.lose();
+    };
+    if !systems::answer(alloc, s, call, &n, line)
+        && !certificates::answer(alloc, s, call, &n, line)
     {
-        bail!("no such call: {call}");
+        line.put(" no such call");
     }
-    out.whole()
 }
 
-fn main(rt: HostRuntime) -> Result<()> {
-    let alloc = rt.alloc();
-    let mut s = System::new(alloc, WordList::new(alloc))?;
-    for line in rt.lines(alloc) {
-        let line = line?;
-        let text = told(alloc, &mut s, line.as_str())?;
-        println!(rt; "{text}")?;
+/// Prints a line and what came of it.
+fn print(rt: &HostRuntime, s: &mut System, text: &str) -> io::Result<()> {
+    let mut line = Line::new(rt.alloc());
+    tell(rt.alloc(), s, text, &mut line);
+    if line.is_lost {
+        return println!(rt; "out of memory");
+    }
+    println!(rt; "{text}{}", line.as_str())
+}
+
+/// A system without positions.
+fn empty_system(alloc: Global) -> Result<Box<System>, NoMemory> {
+    Ok(Box::new(alloc, System::new(alloc, WordList::new(alloc))?)?)
+}
+
+fn main(rt: HostRuntime) -> io::Result<()> {
+    let Ok(mut s) = empty_system(rt.alloc()) else {
+        return println!(rt; "out of memory");
+    };
+    for text in rt.lines(rt.alloc()) {
+        print(&rt, &mut s, text?.as_str())?;
     }
     Ok(())
 }

@@ -1,14 +1,13 @@
 //! The numbers of a call.
-use anyhow::Result;
-use attr_ids::PosId;
+use attr_ids::{NoMemory, PosId};
 use std::alloc::Global;
 use std::str::SplitWhitespace;
 
-/// The numbers that these words are in base 10.
-pub(crate) fn parsed(alloc: Global, words: SplitWhitespace<'_>) -> Result<Vec<u64>> {
+/// The numbers that these words are in base 10; one that is none is the largest.
+pub(crate) fn parsed(alloc: Global, words: SplitWhitespace<'_>) -> Result<Vec<u64>, NoMemory> {
     let mut n = Vec::new(alloc);
     for word in words {
-        n.push(u64::from_str_radix(word, 10)?)?;
+        n.push(u64::from_str_radix(word, 10).unwrap_or(u64::MAX))?;
     }
     Ok(n)
 }
