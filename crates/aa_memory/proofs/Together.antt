@@ -36,7 +36,7 @@ use Rattle.aa_memory.specs.Asked.{AsksBodies, SpeaksBodies}
 use Rattle.aa_memory.proofs.Whole.{asks_down, asks_up, speaks_down, speaks_up}
 
 -- a function with a block has blocks
-some_blocks : (func : Func) {i : ℕ} → IsBlockOf func i → has_blocks (Some func) ≡ true
+pub some_blocks : (func : Func) {i : ℕ} → IsBlockOf func i → has_blocks (Some func) ≡ true
 some_blocks func run = ap not (ne_eqb func.block_count 0 (λ none. let low = run.0 in let high = run.1 in omega (arith, none, low, high)))
 
 module _ (m : Module) (ps : Numbered) where

@@ -30,12 +30,11 @@ pub(crate) enum Class {
     Global,
 }
 
-/// What decides of a call that it makes no access of a kind at a location: the body that it runs, or else what it
-/// promises.
+/// What decides of a call that it has a fact: the body that it runs, or else what it promises.
 #[derive(Clone, Copy)]
-pub(crate) struct Callee {
-    pub(crate) body: Option<FuncId>,
-    pub(crate) promised: bool,
+pub struct Callee {
+    pub body: Option<FuncId>,
+    pub promised: bool,
 }
 
 /// The bit that no such access is made at the location.

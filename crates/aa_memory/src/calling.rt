@@ -27,7 +27,7 @@ pub(crate) fn callee(m: &Module, a: Access, location: Location, op: &Op) -> Call
 }
 
 /// The bits `to` where the call has the fact of this bit: an inner one by its callee's word, an outer one by what it promises.
-pub(crate) fn of_callee(
+pub fn of_callee(
     alloc: Global,
     ps: &Positions,
     callee: Callee,

@@ -13,6 +13,7 @@ mod keeping;
 mod pointers;
 mod promising;
 
-pub use accesses::{Access, Location};
+pub use accesses::{Access, Callee, Location};
+pub use calling::of_callee;
 pub use filling::terms;
 pub use promising::promises_no_access;

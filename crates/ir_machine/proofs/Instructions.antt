@@ -110,6 +110,21 @@ IsNoPtr datum.Poison = Unit {0}
 IsNoPtr (datum.Int bits) = Unit {0}
 IsNoPtr datum.Pair = Unit {0}
 
+-- so many things are counted: one where no count is written, else what the operand was read as
+abbrev pub IsCounted : Module → Here → Option Written → ℕ → Type 0
+IsCounted m here None n = n ≡ 1
+IsCounted m here (Some w) n = (x : Value) × IsRead m here w x × (count_of x.datum ≡ Gives n)
+
+-- the place of an alloca: at a base of its alignment where there is room, and of as many things of its type as are counted
+pub record IsLaid (m : Module) (here : Here) (ty : TypeId) (count : Option Written) (written : Option ℕ) (align base size : ℕ) : Type 0 where
+  pub lies : can_lie here.state.memory align base size ≡ true
+  pub aligned : align_or m ty.0 written ≡ Gives align
+  pub bytes : ℕ
+  pub number : ℕ
+  pub sized : size_of m ty.0 ≡ Gives bytes
+  pub counted : IsCounted m here count number
+  pub is : size ≡ bytes * number
+
 -- a value without origins that is no pointer to a block
 pub record IsBare (x : Value) : Type 0 where
   pub origins : x.origins ≡ []
@@ -131,7 +146,7 @@ module _ (m : Module) (here : Here) (Q : List Move → Type 0) where
         Q (Says (Capture x.origins) ∷ Sets v.0 z ∷ Goes (behind here.frame.spot) ∷ [])
     pub allocating : (ty : TypeId) (count : Option Written) (written : Option ℕ) (align base size : ℕ) (v : ValueId) →
         here.instr.op ≡ op.Alloca ty count written →
-        can_lie here.state.memory align base size ≡ true → here.instr.result ≡ Some v →
+        IsLaid m here ty count written align base size → here.instr.result ≡ Some v →
         Q (Grows (alloca_shape here v.0 base size) ∷ Sets v.0 (plain (datum.Ptr here.state.memory.count 0)) ∷ Goes (behind here.frame.spot) ∷ [])
     pub loading : (ptr : Written) (align : Option ℕ) (volatile : Bool) (p : Value) (place : Place) (x : Value) (v : ValueId) →
         here.instr.op ≡ op.Load ptr align volatile →
@@ -195,20 +210,29 @@ module _ (m : Module) (here : Here) (Q : List Move → Type 0) where
   on_alloca : EachKind → (ty : TypeId) (count : Option Written) (align : Option ℕ) (picks : List ℕ) → here.instr.op ≡ op.Alloca ty count align →
       OnOutcome Q (allocates m here picks ty.0 count align)
   on_alloca each ty count align picks is =
-      on_counting count picks _ (λ n rest. on_with Q (size_of m ty.0) _ (λ size _. on_with Q (align_or m ty.0 align) _ (λ bytes _.
+      on_counting count picks _ (λ n rest counted. on_with Q (size_of m ty.0) _ (λ size sized. on_with Q (align_or m ty.0 align) _ (λ bytes aligned.
       on_needs Q (nat_le (size * n) (2 ^ 40)) (allocates_at here bytes (base_by here.state.memory bytes (pick rest)) (size * n))
-      (λ _. at bytes (base_by here.state.memory bytes (pick rest)) (size * n)))))
+      (λ _. at bytes (base_by here.state.memory bytes (pick rest)) size n aligned sized counted))))
     where
-      at : (bytes base size : ℕ) → OnOutcome Q (allocates_at here bytes base size)
-      at bytes base size =
-          on_fits Q (can_lie here.state.memory bytes base size) _ (λ can. on_found Q here.instr.result _
-          (λ v has. each.allocating ty count align bytes base size v is can has))
+      at : (bytes base size n : ℕ) → align_or m ty.0 align ≡ Gives bytes → size_of m ty.0 ≡ Gives size → IsCounted m here count n →
+          OnOutcome Q (allocates_at here bytes base (size * n))
+      at bytes base size n aligned sized counted =
+          on_fits Q (can_lie here.state.memory bytes base (size * n)) _ (λ can. on_found Q here.instr.result _
+          (λ v has. each.allocating ty count align bytes base (size * n) v is (record {
+            lies = can;
+            aligned = aligned;
+            bytes = size;
+            number = n;
+            sized = sized;
+            counted = counted;
+            is = refl;
+          }) has))
 
-      on_counting : (count : Option Written) (picks : List ℕ) (next : ℕ → List ℕ → Plan) → ((n : ℕ) (rest : List ℕ) → OnOutcome Q (next n rest)) →
-          OnOutcome Q (counting m here count picks next)
-      on_counting None picks next goes = goes 1 picks
+      on_counting : (count : Option Written) (picks : List ℕ) (next : ℕ → List ℕ → Plan) →
+          ((n : ℕ) (rest : List ℕ) → IsCounted m here count n → OnOutcome Q (next n rest)) → OnOutcome Q (counting m here count picks next)
+      on_counting None picks next goes = goes 1 picks refl
       on_counting (Some w) picks next goes =
-          on_reading Q m here w picks _ (λ x rest at. on_with Q (count_of x.datum) (λ n. next n rest) (λ n _. goes n rest))
+          on_reading Q m here w picks _ (λ x rest at. on_with Q (count_of x.datum) (λ n. next n rest) (λ n counted. goes n rest (x, at, counted)))
 
   on_load : EachKind → (ptr : Written) (align : Option ℕ) (volatile : Bool) (picks : List ℕ) → here.instr.op ≡ op.Load ptr align volatile →
       OnOutcome Q (loads m here picks ptr align volatile)

@@ -103,7 +103,7 @@ module _ (m : Module) (t : State) (valid : IsValid t) where
     computing = λ picks x v gives has. (tt, (tt, tt));
     comparing = λ pred flagged a b x y z v is at_a at_b bare has. (tt, (tt, (tt, (tt, tt))));
     exposing = λ flagged a x z v is at bare has. (tt, (tt, (tt, tt)));
-    allocating = λ ty count written align base size v is can has. ((room_of align base size can, standing), (tt, (tt, tt)));
+    allocating = λ ty count written align base size v is can has. ((room_of align base size can.lies, standing), (tt, (tt, tt)));
     loading = λ ptr align volatile p place x v is at can loaded has. along_whats t (Read place.block p.origins ∷ hidden volatile p) _ (tt, (tt, tt));
     storing = λ val ptr align volatile x p place is at_val at_ptr can. along_whats t
         (Write place.block p.origins ∷ Capture x.origins ∷ hidden volatile p) _ (tt, (tt, tt));

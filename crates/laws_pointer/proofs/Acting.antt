@@ -1,9 +1,19 @@
 -- Each kind of instruction and each act brings values that are as their words say.
-use Rattle.std.proofs.Common.{◌≡◌, ℕ, zero, suc, ◌+◌, ◌++◌, ◌<◌, Bool, true, false, List, [], ◌∷◌, slice_get, map, Option, None, Some, refl, sym, ap, subst}
+use Rattle.std.proofs.Common.{◌≡◌, ℕ, Bool, true, false, List, [], ◌∷◌, slice_get, Option, None, Some, refl, sym, ap, subst}
 use Rattle.std.proofs.Common.{◌∙◌}
-use Rattle.std.proofs.Common.{inl, inr, true≢false, MatchOption}
+use Rattle.std.proofs.Common.{inl, true≢false, MatchOption}
 use Rattle.std.specs.List.{AllByRecursion}
-use Rattle.std.proofs.lemmas.Bool.{and_parts}
+use Rattle.std.proofs.Common.{◌%◌, ◌==◌}
+use Rattle.std.specs.Int.{◌∣◌}
+use Rattle.std.proofs.lemmas.Nat.Gcd.{dvd_of_mod-eq-zero}
+use Rattle.std.proofs.lemmas.Bool.{and_parts, eqb-true}
+use Rattle.facts.specs.Pointer.{alloca_align}
+use Rattle.ir_machine.specs.Memory.{has_room}
+use Rattle.ir_machine.specs.Runs.{or_one}
+use Rattle.ir_machine.proofs.Instructions.{IsLaid}
+use Rattle.laws_pointer.proofs.Placed.{rung_of, placed_start}
+use Rattle.laws_pointer.proofs.Good.{same_align}
+use Rattle.laws_pointer.proofs.Rules.{indexed_at}
 use Rattle.std.proofs.lemmas.Option.{same_Some}
 use Rattle.shelf.proofs.Every.{every_always}
 use Rattle.attr_ids.specs.declared.ids.TypeId.{TypeId}
@@ -14,61 +24,57 @@ use Rattle.ir_module.specs.declared.op.Op.{Op}
 use Rattle.ir_module.specs.declared.op.Op.TheVariants as op
 use Rattle.ir_module.specs.declared.op.Instr.{Instr}
 use Rattle.ir_module.specs.declared.op.Written.{Written}
-use Rattle.ir_module.specs.declared.module.Param.{Param}
 use Rattle.ir_module.specs.declared.module.Spot.{Spot}
 use Rattle.ir_module.specs.declared.module.Module.{Module}
 use Rattle.ir_module.specs.Places.{instr_at, IsIn}
-use Rattle.ir_module.specs.Edges.{IsEdgeAt}
-use Rattle.ir_module.specs.Calls.{call_of, inner_callee, is_open}
+use Rattle.ir_module.specs.Calls.{call_of}
 use Rattle.ir_module.specs.WellFormed.{IsWellFormed}
-use Rattle.facts.specs.Kinds.{ValueFact, SameAs, NonNull, AlignedTo, HasBytes, NotTo, UsedSo, BlockClass, OwnAlloca, Unknown, class_bit, value_fact}
+use Rattle.facts.specs.Kinds.{ValueFact, SameAs, NonNull, AlignedTo, HasBytes, NotTo, UsedSo, OwnAlloca, Unknown, class_bit, value_fact}
 use Rattle.facts.specs.Facts.{Fact, of_return, dead_at}
 use Rattle.facts.specs.Known.{written_has}
 use Rattle.facts.specs.Return.{ReturnHas, RetHas}
-use Rattle.facts.specs.Entry.{EachPassed}
 use Rattle.ir_machine.specs.declared.choice.Datum.TheVariants as datum
 use Rattle.ir_machine.specs.declared.choice.Value.{Value}
 use Rattle.ir_machine.specs.declared.choice.Choice.{Choice}
 use Rattle.ir_machine.specs.Values.{plain}
 use Rattle.ir_machine.specs.Memory.{Memory, Shape, OfAlloca, without_allocas}
-use Rattle.ir_machine.specs.Frames.{Made, Entered, At, active, BodyFrame, OutsideFrame, Frame, Body, Outside, call_of as call_in, State, What, Enter, Read}
+use Rattle.ir_machine.specs.Frames.{Entered, At, BodyFrame, OutsideFrame, Frame, Body, Outside, State, Read}
 use Rattle.ir_machine.specs.Frames.{Write, Capture}
 use Rattle.ir_machine.specs.Frames.{Return, Unwind, event}
-use Rattle.ir_machine.specs.Moves.{Move, Says, Grows, Fills, Sets, Goes, Takes, Begins, Ends, moved, after, says, Gives, Undefined, Over, Plan}
+use Rattle.ir_machine.specs.Moves.{Move, Says, Grows, Fills, Sets, Goes, Takes, Ends, moved, after, says}
 use Rattle.ir_machine.specs.Reading.{Here, behind}
 use Rattle.ir_machine.specs.Access.{alloca_shape, hidden, bytes_with}
 use Rattle.ir_machine.specs.Edges.{crossing}
-use Rattle.ir_machine.specs.Calls.{entered, passed_to, params_of, body_frame, begun_by, is_end_name, marks_last}
+use Rattle.ir_machine.specs.Calls.{passed_to, is_end_name, marks_last}
 use Rattle.ir_machine.specs.Outside.{can_use, is_value_of, return_type, can_return, pointers_in, reads_at, captures_in, written_at, block_in, taking}
 use Rattle.ir_machine.specs.Steps.{plan}
-use Rattle.ir_machine.specs.Runs.{Done, done}
+use Rattle.ir_machine.specs.Runs.{done}
 use Rattle.ir_machine.specs.Arguments.{ArgumentsAreOperands}
-use Rattle.ir_machine.specs.Links.{AreLinked, IsLinked}
-use Rattle.ir_machine.specs.Meanings.{IsNonnull}
+use Rattle.ir_machine.specs.Links.{IsLinked}
 use Rattle.ir_machine.specs.Honest.{IsFair}
-use Rattle.ir_machine.specs.Valid.{scope_of, Known, HasAll, IsValid}
+use Rattle.ir_machine.specs.Valid.{scope_of, Known, IsValid}
 use Rattle.ir_machine.proofs.Basics.{OnOutcome, put_at, Along, along_says}
 use Rattle.ir_machine.proofs.Carried.{operand_has, used_has}
 use Rattle.ir_machine.proofs.Instructions.{AreRead, IsRead, IsReadOr, EachKind, EachAct, by_step, here_in, passing_at, passing_in}
-use Rattle.ir_machine.proofs.Moving.{crossed, came, went_on, went_through, taking_all}
+use Rattle.ir_machine.proofs.Moving.{crossed, came, went_on, went_through}
 use Rattle.ir_machine.proofs.Linked.{with_stack, onto}
 use Rattle.ir_machine.proofs.Valid.{known_closed, later_moved}
-use Rattle.law_premises.specs.Premises.{JustifiesItself, StandLive, IsControlled}
-use Rattle.law_premises.specs.Types.{HasTypedAddresses, PassesAddresses}
+use Rattle.law_premises.specs.Premises.{JustifiesItself, StandLive}
+use Rattle.law_premises.specs.Types.{HasTypedAddresses}
 use Rattle.laws_pointer.proofs.Good.{IsGood, word_of, class_fact, in_class, fewer_classes, AreGood}
 use Rattle.laws_pointer.proofs.Good.{Says as IsSaid}
 use Rattle.laws_pointer.proofs.Rules.{RuleOf, HasRules, result_rules, free_good, operand_good, computed_good}
-use Rattle.laws_pointer.proofs.Frames.{HasPassed, FrameIsGood, begins_good, passed_nonnull, all_passed}
+use Rattle.laws_pointer.proofs.Frames.{begins_good, passed_says, all_passed}
 use Rattle.laws_pointer.proofs.Results.{return_word}
-use Rattle.laws_pointer.proofs.Crossing.{TakesOff, takes_edge, going_good, through_good}
-use Rattle.laws_pointer.proofs.Stepping.{Given, IsSilent, has_edge, Good, Asked, Inv, free_along, later_same, marks_good, stands_in, may_land, IsReturned}
+use Rattle.laws_pointer.proofs.Crossing.{takes_edge, going_good, through_good}
+use Rattle.laws_pointer.proofs.Stepping.{Given, has_edge, Asked, Inv, later_same, marks_good, stands_in, may_land, IsReturned}
 use Rattle.laws_pointer.proofs.Stepping.{coming_good}
 
 module _ (m : Module) (formed : IsWellFormed m) (held : Fact → Bool) (is : JustifiesItself m held) where
   -- what a `ret` returns is as the word of its body's return says
   pub ret_good : (t : State) (frame : BodyFrame) (below : List Frame) (instr : Instr) (w : Written) (x : Value) → IsIn m frame.func frame.spot →
       instr_at m frame.spot ≡ Some instr → held (dead_at frame.spot) ≡ false → instr.op ≡ op.Ret (Some w) →
-      IsGood t.memory frame.call (written_has m held w) x.datum → IsGood t.memory frame.call (return_word m held is frame.func) x.datum
+      IsGood m t.memory frame.call (written_has m held w) x.datum → IsGood m t.memory frame.call (return_word m held is frame.func) x.datum
   ret_good t frame below instr w x stands at live op_is good = record {
     bits = λ bit kind has e. good.bits bit kind (rule bit kind has e) e;
     classes = fewer_classes t.memory frame.call (return_word m held is frame.func) (written_has m held w) x.datum
@@ -113,7 +119,7 @@ module _ (m : Module) (formed : IsWellFormed m) (held : Fact → Bool) (is : Jus
       inv0 : Inv m formed held is w0
       inv0 = subst (λ s. Inv m formed held is (with_stack t s)) stack inv
 
-      values : AreGood held t.memory frame.call frame.values
+      values : AreGood m held t.memory frame.call frame.values
       values = inv0.frames.0.kind.values
 
       ends_at : (moves : List Move) → (after w0 moves).stack ≡ (after t moves).stack
@@ -129,17 +135,19 @@ module _ (m : Module) (formed : IsWellFormed m) (held : Fact → Bool) (is : Jus
       free : (mem : Memory) (v : ValueId) (o : Op) (x : Value) → instr.op ≡ o → HasRules m held is frame.func v.0 frame.spot instr.op →
           ((bit : ℕ) → RuleOf m held is frame.func v.0 frame.spot o bit NonNull → ⊥) →
           ((bit i : ℕ) → RuleOf m held is frame.func v.0 frame.spot o bit (SameAs i) → ⊥) →
-          ((bit : ℕ) → RuleOf m held is frame.func v.0 frame.spot o bit (NotTo Unknown) → ⊥) → IsGood mem frame.call (word_of held v.0) x.datum
-      free mem v o x op_is has no_null no_same no_class =
+          ((bit n : ℕ) → RuleOf m held is frame.func v.0 frame.spot o bit (AlignedTo n) → ⊥) →
+          ((bit : ℕ) → RuleOf m held is frame.func v.0 frame.spot o bit (NotTo Unknown) → ⊥) → IsGood m mem frame.call (word_of held v.0) x.datum
+      free mem v o x op_is has no_null no_same no_align no_class =
           free_good m held is mem frame.call frame.func v.0 frame.spot o x.datum
-          (subst (HasRules m held is frame.func v.0 frame.spot) op_is has) no_null no_same no_class
+          (subst (HasRules m held is frame.func v.0 frame.spot) op_is has) no_null no_same no_align no_class
 
       -- the block of an alloca is one of the frame's own
-      alloca_good : (v : ValueId) (ty : TypeId) (count : Option Written) (written : Option ℕ) (base size : ℕ) → instr.op ≡ op.Alloca ty count written →
+      alloca_good : (v : ValueId) (ty : TypeId) (count : Option Written) (written : Option ℕ) (align base size : ℕ) → instr.op ≡ op.Alloca ty count written →
+          IsLaid m here ty count written align base size →
           HasRules m held is frame.func v.0 frame.spot instr.op →
-          IsGood (moved w0 (Grows (alloca_shape here v.0 base size))).memory frame.call (word_of held v.0) (datum.Ptr t.memory.count 0)
-      alloca_good v ty count written base size op_is has = record {
-        bits = λ bit kind fact e. says bit kind (own bit kind fact e);
+          IsGood m (moved w0 (Grows (alloca_shape here v.0 base size))).memory frame.call (word_of held v.0) (datum.Ptr t.memory.count 0)
+      alloca_good v ty count written align base size op_is laid has = record {
+        bits = λ bit kind fact e. says bit kind e (own bit kind fact e);
         classes = λ b o points alive.
             let same : t.memory.count ≡ b = cc in
             in_class (moved w0 (Grows (alloca_shape here v.0 base size))).memory frame.call (word_of held v.0) b OwnAlloca (
@@ -153,14 +161,26 @@ module _ (m : Module) (formed : IsWellFormed m) (held : Fact → Bool) (is : Jus
           own : HasRules m held is frame.func v.0 frame.spot (op.Alloca ty count written)
           own = subst (HasRules m held is frame.func v.0 frame.spot) op_is has
 
-          says : (bit : ℕ) (kind : ValueFact) → RuleOf m held is frame.func v.0 frame.spot (op.Alloca ty count written) bit kind →
-              IsSaid frame.call (Some kind) (datum.Ptr t.memory.count 0)
-          says bit (SameAs i) rule = absurd rule
-          says bit NonNull rule = tt
-          says bit (AlignedTo bytes) rule = tt
-          says bit (HasBytes n) rule = tt
-          says bit (NotTo class) rule = tt
-          says bit (UsedSo kind) rule = tt
+          -- the alignment of the alloca, which its base has
+          its_align : alloca_align m ty.0 written ≡ align
+          its_align = sym (same_align m ty.0 written) ∙ ap or_one laid.aligned
+
+          base_is : (base % align) ≡ 0
+          base_is = eqb-true (base % align) 0 (and_parts (base % align == 0) (has_room t.memory base size) laid.lies).0
+
+          says : (bit : ℕ) (kind : ValueFact) → value_fact bit ≡ Some kind →
+              RuleOf m held is frame.func v.0 frame.spot (op.Alloca ty count written) bit kind →
+              IsSaid m (moved w0 (Grows (alloca_shape here v.0 base size))).memory frame.call (Some kind) (datum.Ptr t.memory.count 0)
+          says bit (SameAs i) e rule = absurd rule
+          says bit NonNull e rule = tt
+          says bit (AlignedTo bytes) e rule = λ indices.
+              placed_start (moved w0 (Grows (alloca_shape here v.0 base size))).memory bytes t.memory.count align (rung_of bit bytes e)
+              (subst (λ k. bytes ∣ k) its_align (dvd_of_mod-eq-zero bytes {n = alloca_align m ty.0 written} rule))
+              (put_at (λ (s : Shape). s.base % align ≡ 0) t.memory.count (alloca_shape here v.0 base size) t.memory.shape t.memory.count
+              (λ same. base_is) (λ other. absurd (other refl)))
+          says bit (HasBytes n) e rule = tt
+          says bit (NotTo class) e rule = tt
+          says bit (UsedSo kind) e rule = tt
 
       operand_known : (w : Written) (x : Value) → IsRead m here w x → Known (scope_of t) x
       operand_known w x reads =
@@ -175,7 +195,7 @@ module _ (m : Module) (formed : IsWellFormed m) (held : Fact → Bool) (is : Jus
       returned linked live (Some v) None op_is reads w e = absurd reads
       returned linked live (Some v) (Some x) op_is reads w e =
           let same : x ≡ w = cc in
-          subst (λ (w : Value). Known (scope_of t) w × IsGood t.memory frame.call (return_word m held is frame.func) w.datum) same (
+          subst (λ (w : Value). Known (scope_of t) w × IsGood m t.memory frame.call (return_word m held is frame.func) w.datum) same (
             operand_known v x reads,
             ret_good t frame below instr v x (stands linked) at live op_is
                 (operand_good m held is here (scope_of t) valid.blocks inv.homes values 0 v x reads),
@@ -186,24 +206,41 @@ module _ (m : Module) (formed : IsWellFormed m) (held : Fact → Bool) (is : Jus
         computing = λ picks x v gives has given.
             onto (Asked m formed held is) t old (Sets v.0 x ∷ Goes (behind frame.spot) ∷ []) stack (
               computed_good m held is here (scope_of t) valid.blocks inv.homes values v.0 frame.func frame.spot picks instr.op x
-                  (rules given.linked v has) gives,
+                  (indexed_at m frame.spot instr at) (rules given.linked v has) gives,
               (tt, tt),
             );
         comparing = λ pred flagged a b x y z v op_is at_a at_b bare has given.
-            onto (Asked m formed held is) t old (Says (Capture x.origins) ∷ Says (Capture y.origins) ∷ Sets v.0 z ∷ Goes (behind frame.spot) ∷ []) stack
-            (tt, (tt, (free t.memory v (op.Icmp pred flagged a b) z op_is (rules given.linked v has) (λ bit r. r) (λ bit i r. r) (λ bit r. r), (tt, tt))));
+            onto (Asked m formed held is) t old (Says (Capture x.origins) ∷ Says (Capture y.origins) ∷ Sets v.0 z ∷ Goes (behind frame.spot) ∷ []) stack (
+              tt,
+              (
+                tt,
+                (
+                  free t.memory v (op.Icmp pred flagged a b) z op_is (rules given.linked v has) (λ bit r. r) (λ bit i r. r) (λ bit n r. r) (λ
+                      bit r. r),
+                  (tt, tt),
+                ),
+              ),
+            );
         exposing = λ flagged a x z v op_is at_a bare has given.
-            onto (Asked m formed held is) t old (Says (Capture x.origins) ∷ Sets v.0 z ∷ Goes (behind frame.spot) ∷ []) stack
-            (tt, (free t.memory v (op.Cast cast.PtrToInt flagged a) z op_is (rules given.linked v has) (λ bit r. r) (λ bit i r. r) (λ bit r. r), (tt, tt)));
+            onto (Asked m formed held is) t old (Says (Capture x.origins) ∷ Sets v.0 z ∷ Goes (behind frame.spot) ∷ []) stack (
+              tt,
+              (
+                free t.memory v (op.Cast cast.PtrToInt flagged a) z op_is (rules given.linked v has) (λ bit r. r) (λ bit i r. r) (λ bit n r. r) (λ
+                    bit r. r),
+                (tt, tt),
+              ),
+            );
         allocating = λ ty count written align base size v op_is can has given.
             onto (Asked m formed held is) t old
             (Grows (alloca_shape here v.0 base size) ∷ Sets v.0 (plain (datum.Ptr t.memory.count 0)) ∷ Goes (behind frame.spot) ∷ []) stack
-            (tt, (alloca_good v ty count written base size op_is (rules given.linked v has), (tt, tt)));
+            (tt, (alloca_good v ty count written align base size op_is can (rules given.linked v has), (tt, tt)));
         loading = λ ptr align volatile p place x v op_is at_p can loaded has given.
             onto (Asked m formed held is) t old (says (Read place.block p.origins ∷ hidden volatile p) (Sets v.0 x ∷ Goes (behind frame.spot) ∷ [])) stack
             (along_says (Asked m formed held is) w0 (Read place.block p.origins ∷ hidden volatile p) (Sets v.0 x ∷ Goes (behind frame.spot) ∷ [])
-            (every_always (λ what. Unit {0}) (Read place.block p.origins ∷ hidden volatile p) (λ what. tt))
-            (free t.memory v (op.Load ptr align volatile) x op_is (rules given.linked v has) (λ bit r. r) (λ bit i r. r) (λ bit r. r), (tt, tt)));
+            (every_always (λ what. Unit {0}) (Read place.block p.origins ∷ hidden volatile p) (λ what. tt)) (
+              free t.memory v (op.Load ptr align volatile) x op_is (rules given.linked v has) (λ bit r. r) (λ bit i r. r) (λ bit n r. r) (λ bit r. r),
+              (tt, tt),
+            ));
         storing = λ val ptr align volatile x p place op_is at_val at_ptr can given.
             along_says (Asked m formed held is) t (Write place.block p.origins ∷ Capture x.origins ∷ hidden volatile p)
             (Fills place.block (bytes_with t.memory place x) ∷ Goes (behind frame.spot) ∷ [])
@@ -225,11 +262,10 @@ module _ (m : Module) (formed : IsWellFormed m) (held : Fact → Bool) (is : Jus
         calling_body = λ call xs args f is_call reads inner enters given.
             let live = (subst (StandLive held) stack given.controlled.live).0 in (
               begins_good m held is t (passing_at here call xs) f args enters
-                  (λ at' bit p y closed each e at_y. passed_nonnull m held is here
-                  (scope_of t) valid.blocks inv.homes values live at call xs f at' bit y is_call reads inner each e at_y)
+                  (λ at' bit kind p y closed each e at_y. passed_says m held is here
+                  (scope_of t) valid.blocks inv.homes values live at call xs f at' bit kind y is_call reads inner each e at_y)
                   (λ s other written at' w made there is_written at_w.
-                  begins_passed t frame below instr call xs at is_call reads s other written at' w made there is_written at_w)
-                  t.memory,
+                  begins_passed t frame below instr call xs at is_call reads s other written at' w made there is_written at_w),
               (tt, tt),
             );
         calling_outside = λ call callee xs is_call at_callee reads inner given. (
@@ -330,8 +366,9 @@ module _ (m : Module) (formed : IsWellFormed m) (held : Fact → Bool) (is : Jus
         freeing = λ block can given. (tt, (tt, tt));
         keeping = λ x can given. (tt, (tt, tt));
         entering = λ f xs args open' passes enters given. (
-          begins_good m held is t (passing_in m f xs) f args enters (λ at bit p y closed each e at_y. absurd (true≢false (sym open' ∙ closed)))
-              (λ s other written at w made there is_written at_w. absurd (entered_at s made)) t.memory,
+          begins_good m held is t (passing_in m f xs) f args enters
+              (λ at bit kind p y closed each e at_y. absurd (true≢false (sym open' ∙ closed)))
+              (λ s other written at w made there is_written at_w. absurd (entered_at s made)),
           (tt, tt),
         );
         returning = λ x picks moves can back given.

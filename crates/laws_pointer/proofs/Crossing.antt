@@ -1,6 +1,5 @@
 -- Edges, returns and unwindings: the values that they bring to a module frame are as their words say.
-use Rattle.std.proofs.Common.{◌≡◌, ℕ, zero, suc, ◌++◌, ◌<◌, ◌≤◌, ◌==◌, Bool, true, false, if◌then◌else◌, List, [], ◌∷◌, slice_get, map, Option, None, Some}
-use Rattle.std.proofs.Common.{is_some}
+use Rattle.std.proofs.Common.{◌≡◌, ℕ, suc, ◌++◌, ◌<◌, ◌≤◌, ◌==◌, Bool, true, false, if◌then◌else◌, List, [], ◌∷◌, slice_get, Option, None, Some}
 use Rattle.std.proofs.Common.{refl, sym, ap, subst, ◌∙◌, inl, inr, arith, eqb-true}
 use Rattle.std.specs.List.{AllByRecursion, find}
 use Rattle.std.specs.Option.{option_map}
@@ -20,7 +19,6 @@ use Rattle.ir_module.specs.Places.{spot, instr_at, in_seg, first_seg_of, first_s
 use Rattle.ir_module.specs.Edges.{edge, edges, IsEdgeAt}
 use Rattle.ir_module.specs.Formed.{IsBlockIn}
 use Rattle.ir_module.specs.WellFormed.{IsWellFormed}
-use Rattle.facts.specs.Kinds.{ValueFact, SameAs, NonNull, AlignedTo, HasBytes, NotTo, UsedSo, class_bit, value_fact}
 use Rattle.facts.specs.Facts.{Fact}
 use Rattle.facts.specs.Known.{written_has}
 use Rattle.facts.specs.DeadEdges.{is_dead_edge, IsArmBy}
@@ -29,10 +27,10 @@ use Rattle.ir_machine.specs.Memory.{Memory, put}
 use Rattle.ir_machine.specs.Frames.{BodyFrame, Frame, Body, Outside, State}
 use Rattle.ir_machine.specs.Moves.{Move, Says, Grows, Turns, Fills, Keeps, Sets, Goes, Takes, Begins, Ends, moved, after, with_value, at_spot}
 use Rattle.ir_machine.specs.Reading.{Values}
-use Rattle.ir_machine.specs.Edges.{Crossing, crossing, arm_from, block_in, block_of, instrs_in, first_instrs, behind_phis, phi_count}
+use Rattle.ir_machine.specs.Edges.{Crossing, arm_from, block_in, block_of, instrs_in, first_instrs, behind_phis, phi_count}
 use Rattle.ir_machine.specs.Calls.{with_result, Lands, landing_by, landing_in}
 use Rattle.ir_machine.specs.Runs.{Done}
-use Rattle.ir_machine.specs.Valid.{Scope, scope_of, IsAmongFirst, Known, IsSomeOf, IsValid, IsLater}
+use Rattle.ir_machine.specs.Valid.{scope_of, Known, IsSomeOf, IsValid, IsLater}
 use Rattle.ir_machine.proofs.Basics.{Along, put_has}
 use Rattle.ir_machine.proofs.Carried.{read_has}
 use Rattle.ir_machine.proofs.Moving.{IsPhiSet, IsCrossing, IsOnward, SetsFirst, IsGoingOn, IsThrough}
@@ -92,7 +90,7 @@ module _ (m : Module) (formed : IsWellFormed m) (held : Fact → Bool) (is : Jus
   abbrev pub SetsGood : Memory → List Frame → ℕ → Value → Type 0
   SetsGood mem [] v x = Unit {0}
   SetsGood mem (Outside frame ∷ below) v x = Unit {0}
-  SetsGood mem (Body frame ∷ below) v x = IsGood mem frame.call (word_of held v) x.datum
+  SetsGood mem (Body frame ∷ below) v x = IsGood m mem frame.call (word_of held v) x.datum
 
   -- what is asked of a move
   abbrev pub C : State → Move → Type 0
@@ -125,7 +123,7 @@ module _ (m : Module) (formed : IsWellFormed m) (held : Fact → Bool) (is : Jus
     pub homes : HasHomes m t0.memory
     pub later : IsLater t0.memory u.memory
     pub stands : IsIn m frame.func frame.spot
-    pub good : AreGood held t0.memory frame.call values
+    pub good : AreGood m held t0.memory frame.call values
     pub known : (v : ℕ) → IsSomeOf (Known (scope_of t0)) (values v)
 
   module _ (t0 : State) (frame : BodyFrame) (values : Values) (target : ℕ) where
@@ -134,7 +132,7 @@ module _ (m : Module) (formed : IsWellFormed m) (held : Fact → Bool) (is : Jus
 
     -- a phi is as its word says, by its arm
     phi_good : (u : State) → TakesOff t0 u frame values → IsLiveWay m held frame.spot target → IsIn m frame.func (behind_phis m target) → (v : ℕ) (x : Value) →
-        IsPhiSet m way_to v x → IsGood u.memory frame.call (word_of held v) x.datum
+        IsPhiSet m way_to v x → IsGood m u.memory frame.call (word_of held v) x.datum
     phi_good u off way inside v x phi =
         let low = (read_has t0.memory.count (Known (scope_of t0)) (known_closed.carried (scope_of t0)) m t0.memory values
         (λ s b home. (off.valid.blocks.homes s b home).0) off.known phi.arm x phi.picks phi.rest phi.reads).0 in
@@ -155,13 +153,14 @@ module _ (m : Module) (formed : IsWellFormed m) (held : Fact → Bool) (is : Jus
           to = subst (IsSegInBlock m way.edge.to.0) (sym way.leads) (starts frame.func frame.spot way.number way.edge off.stands way.is_edge);
           from = record { seg = off.stands.seg; at_seg = off.stands.at_seg; in_block = sym (found.3 ∙ ap block_in off.stands.at_seg) };
         } in
-        good_later t0.memory u.memory off.later frame.call (word_of held v) x.datum low
-        (subst (λ n. IsGood t0.memory frame.call (word_of held n) x.datum) phi.is
+        good_later m t0.memory u.memory off.later frame.call (word_of held v) x.datum low
+        (subst (λ n. IsGood m t0.memory frame.call (word_of held n) x.datum) phi.is
         (taken_good m held is t0.memory frame.call frame.func phi.result.0 s (op.Phi phi.arms) x.datum (written_has m held phi.arm) rules
         (λ bit arms. subst (λ w. written_has m held w bit ≡ true) found.4 (arms frame.spot way.number way.edge found.0 found.1 found.2 by way.live))
         (λ bit i e arms. subst (λ w. written_has m held w bit ≡ true) found.4
         (subst (λ n. written_has m held found.1.val n ≡ true) (sym (same_bit bit i e))
         (arms frame.spot way.number way.edge found.0 found.1 found.2 by way.live)))
+        (λ bit n arms. subst (λ w. written_has m held w bit ≡ true) found.4 (arms frame.spot way.number way.edge found.0 found.1 found.2 by way.live))
         (λ bit c arms. subst (λ w. written_has m held w bit ≡ true) found.4 (arms frame.spot way.number way.edge found.0 found.1 found.2 by way.live)) arm))
 
     pub crossing_good : (u : State) (now : BodyFrame) (rest : List Frame) → now.call ≡ frame.call → TakesOff t0 u frame values →
@@ -169,7 +168,7 @@ module _ (m : Module) (formed : IsWellFormed m) (held : Fact → Bool) (is : Jus
         IsIn m frame.func (behind_phis m target) → (moves : List Move) → IsCrossing m way_to moves → Along C (with_stack u (Body now ∷ rest)) moves
     crossing_good u now rest call off way inside [] cross = absurd cross
     crossing_good u now rest call off way inside (Sets v x ∷ moves) cross = (
-      subst (λ c. IsGood u.memory c (word_of held v) x.datum) (sym call) (phi_good u off way inside v x cross.0),
+      subst (λ c. IsGood m u.memory c (word_of held v) x.datum) (sym call) (phi_good u off way inside v x cross.0),
       crossing_good u (with_value v x now) rest call off way inside moves cross.1,
     )
     crossing_good u now rest call off way inside (Goes s ∷ moves) cross =
@@ -217,7 +216,7 @@ module _ (m : Module) (formed : IsWellFormed m) (held : Fact → Bool) (is : Jus
   -- what is known of a frame from which an unwinding may go on
   abbrev pub MayLand : State → Frame → Type 0
   MayLand t0 (Body frame) = IsIn m frame.func frame.spot ×
-      (AreGood held t0.memory frame.call frame.values × ((v : ℕ) → IsSomeOf (Known (scope_of t0)) (frame.values v)))
+      (AreGood m held t0.memory frame.call frame.values × ((v : ℕ) → IsSomeOf (Known (scope_of t0)) (frame.values v)))
   MayLand t0 (Outside frame) = Unit {0}
 
   module _ (d : Done) (takes : TakesLiveEdges m held d) where
@@ -250,7 +249,7 @@ module _ (m : Module) (formed : IsWellFormed m) (held : Fact → Bool) (is : Jus
     pub going_good : (t0 u : State) (front : List Frame) (frame : BodyFrame) (rest : List Frame) (instr : Instr) (x : Option Value) →
         d.before.stack ≡ front ++ (Body frame ∷ rest) → instr_at m frame.spot ≡ Some instr → TakesOff t0 u frame frame.values →
         ((r : ValueId) (y : Value) → instr.result ≡ Some r → x ≡ Some y →
-        IsGood t0.memory frame.call (word_of held r.0) y.datum × Known (scope_of t0) y) → (moves : List Move) →
+        IsGood m t0.memory frame.call (word_of held r.0) y.datum × Known (scope_of t0) y) → (moves : List Move) →
         IsGoingOn m t0.memory frame instr x moves → (after (with_stack u (Body frame ∷ rest)) moves).stack ≡ d.next.stack →
         Along C (with_stack u (Body frame ∷ rest)) moves
     going_good t0 u front frame rest instr x before at off sets moves (onwards, onward, first) next = by instr.result refl x refl first
@@ -279,16 +278,16 @@ module _ (m : Module) (formed : IsWellFormed m) (held : Fact → Bool) (is : Jus
             subst (λ x. IsOnward m t0.memory frame (with_result (Some r) x frame.values) instr.op onwards) ex
             (subst (λ result. IsOnward m t0.memory frame (with_result result x frame.values) instr.op onwards) e onward) in
             subst (Along C (with_stack u (Body frame ∷ rest))) (sym is_first) (
-              good_later t0.memory u.memory off.later frame.call (word_of held r.0) y.datum well.1.0 well.0,
+              good_later m t0.memory u.memory off.later frame.call (word_of held r.0) y.datum well.1.0 well.0,
               onward_good (with_value r.0 y frame) (put r.0 (Some y) frame.values) instr.op refl refl
                   (record {
                     valid = off.valid;
                     homes = off.homes;
                     later = off.later;
                     stands = off.stands;
-                    good = λ v z at_v. put_has (λ n (found : Option Value). found ≡ Some z → IsGood t0.memory frame.call (word_of held n) z.datum) r.0
+                    good = λ v z at_v. put_has (λ n (found : Option Value). found ≡ Some z → IsGood m t0.memory frame.call (word_of held n) z.datum) r.0
                         (Some y) frame.values v
-                        (λ same. subst (λ (z : Value). IsGood t0.memory frame.call (word_of held r.0) z.datum) (same_Some y z same) well.0)
+                        (λ same. subst (λ (z : Value). IsGood m t0.memory frame.call (word_of held r.0) z.datum) (same_Some y z same) well.0)
                         (λ same. off.good v z same) at_v;
                     known = λ v. put_has (λ n (found : Option Value). IsSomeOf (Known (scope_of t0)) found) r.0 (Some y) frame.values v well.1 (off.known v);
                   })

@@ -1,15 +1,14 @@
 -- What is kept of each frame: its values are as their words say, its arguments are those that were passed, and those of a body
 -- are not null where the word of the entry says so.
-use Rattle.std.proofs.Common.{◌≡◌, ◌≢◌, ℕ, zero, suc, ◌+◌, ◌==◌, ◌&&◌, ◌||◌, ◌<◌, not, nat_lt, Bool, true, false, if◌then◌else◌, List, [], ◌∷◌, slice_get, map}
-use Rattle.std.proofs.Common.{Option, None, Some, refl, sym, ap, subst, ◌∙◌, ◌⊎◌, inl, inr, MatchOption, true≢false, arith}
-use Rattle.std.specs.List.{AllByRecursion, list_any}
+use Rattle.std.proofs.Common.{◌≡◌, ℕ, zero, suc, ◌+◌, ◌||◌, Bool, true, false, if◌then◌else◌, List, [], ◌∷◌, slice_get, map}
+use Rattle.std.proofs.Common.{Option, None, Some, refl, sym, ap, subst, ◌∙◌, ◌⊎◌, inl, inr, MatchOption, true≢false}
+use Rattle.std.specs.List.{AllByRecursion}
 use Rattle.std.specs.Option.{option_map_or, option_and_then}
-use Rattle.std.proofs.lemmas.Bool.{and_parts}
 use Rattle.std.proofs.lemmas.Option.{same_Some}
+use Rattle.shelf.proofs.Every.{every_at}
 use Rattle.attr_ids.specs.declared.ids.TypeId.{TypeId}
 use Rattle.attr_ids.specs.declared.ids.FuncId.{FuncId}
 use Rattle.ir_module.specs.declared.op.Call.{Call}
-use Rattle.ir_module.specs.declared.op.Op.{Op}
 use Rattle.ir_module.specs.declared.op.Instr.{Instr}
 use Rattle.ir_module.specs.declared.op.Written.{Written}
 use Rattle.ir_module.specs.declared.module.Func.{Func}
@@ -20,26 +19,28 @@ use Rattle.ir_module.specs.Places.{instr_at}
 use Rattle.ir_module.specs.Calls.{call_of, direct_callee, inner_callee, callee_in, is_inner, is_open}
 use Rattle.ir_module.specs.WellFormed.{IsParamAt}
 use Rattle.facts.specs.Bodies.{param_in, param_of}
-use Rattle.facts.specs.Kinds.{ValueFact, SameAs, NonNull, AlignedTo, HasBytes, NotTo, UsedSo, BlockClass, OwnAlloca, Argument, Global, Unknown, class_bit}
+use Rattle.facts.specs.Kinds.{ValueFact, SameAs, NonNull, AlignedTo, HasBytes, NotTo, UsedSo, Argument, class_bit}
 use Rattle.facts.specs.Kinds.{value_fact}
-use Rattle.facts.specs.Facts.{Fact, of_value, at_entry, dead_at}
-use Rattle.facts.specs.Known.{written_has, arg_at, arg_has}
-use Rattle.facts.specs.Promises.{gives_nonnull, may_poison}
+use Rattle.facts.specs.Facts.{Fact, at_entry, dead_at}
+use Rattle.facts.specs.Known.{written_has}
+use Rattle.facts.specs.Promises.{gives_nonnull, gives_align, may_poison}
 use Rattle.facts.specs.Entry.{EachPassed, EntryHas}
-use Rattle.ir_machine.specs.declared.choice.Datum.{Datum}
 use Rattle.ir_machine.specs.declared.choice.Datum.TheVariants as datum
 use Rattle.ir_machine.specs.declared.choice.Value.{Value}
 use Rattle.ir_machine.specs.Values.{marked}
-use Rattle.ir_machine.specs.Memory.{Memory, put}
-use Rattle.ir_machine.specs.Frames.{Made, At, Begun, BodyFrame, OutsideFrame, Frame, Body, Outside, call_of as call_in, State}
+use Rattle.ir_machine.specs.Memory.{Memory}
+use Rattle.ir_machine.specs.Frames.{At, BodyFrame, Frame, Body, Outside, call_of as call_in, State}
 use Rattle.ir_machine.specs.Moves.{Gives}
 use Rattle.ir_machine.specs.Reading.{Here, is_pointer as is_ptr_type}
-use Rattle.ir_machine.specs.Calls.{Passing, marked_at, marked_args, passed_to, params_in, params_of, acted_on, entered, bound, begun_by, body_frame}
+use Rattle.ir_machine.specs.Calls.{Passing, marked_at, marked_args, passed_to, params_in, params_of, acted_on, entered, bound, body_frame}
 use Rattle.ir_machine.specs.Meanings.{IsNonnull, PointsTo}
-use Rattle.ir_machine.specs.Valid.{Scope, scope_of, AreBlocks, IsLater, IsAmongFirst, Known, IsSomeOf, HasAll}
+use Rattle.ir_machine.specs.Valid.{Scope, AreBlocks, IsLater, IsAmongFirst, Known, IsSomeOf, HasAll}
 use Rattle.ir_machine.proofs.Basics.{OnOutcome, on_with, given, put_at}
 use Rattle.ir_machine.proofs.Instructions.{IsRead, AreRead, passing_at}
 use Rattle.law_premises.specs.Premises.{JustifiesItself}
+use Rattle.law_premises.specs.Indices.{HasIndices}
+use Rattle.laws_pointer.proofs.Placed.{IsPlaced}
+use Rattle.laws_pointer.proofs.Good.{SaysAlone, alone, alone_later}
 use Rattle.laws_pointer.proofs.Good.{Says, IsGood, word_of, class_fact, in_class, good_later, HasHomes, AreGood}
 use Rattle.laws_pointer.proofs.Rules.{value_rule, acted, acted_may, operand_good}
 
@@ -176,7 +177,7 @@ param_found m f at p e = by (slice_get m.funcs f) refl e
 param_in_of : (m : Module) (f at : ℕ) (p : Param) → slice_get (params_of m f) at ≡ Some p → param_of m f at ≡ Some p
 param_in_of m f at p e = let found = param_found m f at p e in ap (param_in at) found.1 ∙ found.2
 
-params_at : (m : Module) (f at : ℕ) (p : Param) → param_of m f at ≡ Some p → slice_get (params_of m f) at ≡ Some p
+pub params_at : (m : Module) (f at : ℕ) (p : Param) → param_of m f at ≡ Some p → slice_get (params_of m f) at ≡ Some p
 params_at m f at p e = by (slice_get m.funcs f) refl e
   where
     by : (found : Option Func) → slice_get m.funcs f ≡ found → param_in at found ≡ Some p → slice_get (params_of m f) at ≡ Some p
@@ -203,9 +204,9 @@ module _ (m : Module) (held : Fact → Bool) (is : JustifiesItself m held) where
 
   -- what is kept of a body's frame
   pub record BodyIsGood (mem : Memory) (frame : BodyFrame) : Type 0 where
-    pub values : AreGood held mem frame.call frame.values
-    pub entry : (at bit : ℕ) (x : Value) → slice_get frame.call.args at ≡ Some x → held (at_entry frame.func at bit) ≡ true → value_fact bit ≡ Some NonNull →
-        IsNonnull x.datum
+    pub values : AreGood m held mem frame.call frame.values
+    pub entry : (at bit : ℕ) (kind : ValueFact) (x : Value) → slice_get frame.call.args at ≡ Some x → held (at_entry frame.func at bit) ≡ true →
+        value_fact bit ≡ Some kind → SaysAlone m mem kind x.datum
     pub there : (at : ℕ) (p : Param) → param_of m frame.func at ≡ Some p → (x : Value) × (slice_get frame.call.args at ≡ Some x)
 
   abbrev KindIsGood : Memory → Frame → Type 0
@@ -225,9 +226,12 @@ module _ (m : Module) (held : Fact → Bool) (is : JustifiesItself m held) where
   frame_later mem later is_later s same (Outside frame) known good = record { kind = good.kind; args = good.args; passed = good.passed }
   frame_later mem later is_later s same (Body frame) known good = record {
     kind = record {
-      values = λ v x at. good_later mem later is_later frame.call (word_of held v) x.datum
+      values = λ v x at. good_later m mem later is_later frame.call (word_of held v) x.datum
           (subst (λ n. IsAmongFirst n x.datum) same (subst (IsSomeOf (Known s)) at (known.1 v)).0) (good.kind.values v x at);
-      entry = good.kind.entry;
+      entry = λ at bit kind x at_x has e.
+          alone_later m mem later is_later kind x.datum
+          (subst (λ n. IsAmongFirst n x.datum) same (every_at (Known s) frame.call.args at x known.0.1 at_x).0)
+          (good.kind.entry at bit kind x at_x has e);
       there = good.kind.there;
     };
     args = good.args;
@@ -248,8 +252,8 @@ module _ (m : Module) (held : Fact → Bool) (is : JustifiesItself m held) where
   entry_rule f at bit kind has e = subst (λ found. MatchOption found ⊥ (EntryHas m held f at bit)) e (is (at_entry f at bit) has)
 
   module _ (t : State) (passing : Passing) (f : ℕ) (args : List Value) (enters : entered t.memory (params_of m f) (passed_to m t passing) ≡ Gives args)
-      (closed : (at bit : ℕ) (p : Param) (y : Value) → is_open m f ≡ false → EachPassed m held f at bit → value_fact bit ≡ Some NonNull →
-      slice_get (passed_to m t passing) at ≡ Some y → IsNonnull y.datum)
+      (closed : (at bit : ℕ) (kind : ValueFact) (p : Param) (y : Value) → is_open m f ≡ false → EachPassed m held f at bit → value_fact bit ≡ Some kind →
+      slice_get (passed_to m t passing) at ≡ Some y → SaysAlone m t.memory kind y.datum)
       (passed : HasPassed (Body (body_frame m t passing f args))) where
     abbrev frame : BodyFrame
     frame = body_frame m t passing f args
@@ -262,7 +266,7 @@ module _ (m : Module) (held : Fact → Bool) (is : JustifiesItself m held) where
           | inl gives ↦ acts.nonnull (or_false (gives_nonnull one.param.attrs) gives)
           | inr passes ↦
               elim acts.same [
-                | inl same ↦ subst IsNonnull (sym same) (closed at bit one.param one.value passes.closed passes.each e one.at_value)
+                | inl same ↦ subst IsNonnull (sym same) (closed at bit NonNull one.param one.value passes.closed passes.each e one.at_value)
                 | inr poison ↦ subst IsNonnull (sym poison.0) tt
               ]
         ]
@@ -271,34 +275,62 @@ module _ (m : Module) (held : Fact → Bool) (is : JustifiesItself m held) where
         or_false true e = refl
         or_false false e = absurd (true≢false (sym e))
 
-    param_good : (mem : Memory) (v : ℕ) (x : Value) (at : ℕ) (p : Param) → slice_get (params_of m f) at ≡ Some p → p.value.0 ≡ v → slice_get args at ≡ Some x →
-        IsGood mem frame.call (word_of held v) x.datum
-    param_good mem v x at p at_p names at_x = record {
+    entry_aligned : (at bit n : ℕ) (x : Value) → slice_get args at ≡ Some x → held (at_entry f at bit) ≡ true → value_fact bit ≡ Some (AlignedTo n) →
+        HasIndices m → IsPlaced t.memory n x.datum
+    entry_aligned at bit n x is_at has e indices =
+        let one = entered_at t.memory (params_of m f) (passed_to m t passing) args at x enters is_at in
+        let acts = acted t.memory (one.param.attrs ∷ []) one.value x one.acts in
+        elim (entry_rule f at bit (AlignedTo n) has e one.param (param_in_of m f at one.param one.at_param)) [
+          | inl gives ↦ acts.aligned n (or_false (gives_align n one.param.attrs) gives)
+          | inr passes ↦
+              elim acts.same [
+                | inl same ↦ subst (IsPlaced t.memory n) (sym same)
+                    (closed at bit (AlignedTo n) one.param one.value passes.closed passes.each e one.at_value indices)
+                | inr poison ↦ subst (IsPlaced t.memory n) (sym poison.0) tt
+              ]
+        ]
+      where
+        or_false : (b : Bool) → b ≡ true → (b || false) ≡ true
+        or_false true e = refl
+        or_false false e = absurd (true≢false (sym e))
+
+    entry_says : (at bit : ℕ) (kind : ValueFact) (x : Value) → slice_get args at ≡ Some x → held (at_entry f at bit) ≡ true → value_fact bit ≡ Some kind →
+        SaysAlone m t.memory kind x.datum
+    entry_says at bit NonNull x is_at has e = entry_nonnull at bit x is_at has e
+    entry_says at bit (AlignedTo n) x is_at has e = entry_aligned at bit n x is_at has e
+    entry_says at bit (SameAs i) x is_at has e = tt
+    entry_says at bit (HasBytes count) x is_at has e = tt
+    entry_says at bit (NotTo class) x is_at has e = tt
+    entry_says at bit (UsedSo kind) x is_at has e = tt
+
+    param_good : (v : ℕ) (x : Value) (at : ℕ) (p : Param) → slice_get (params_of m f) at ≡ Some p → p.value.0 ≡ v → slice_get args at ≡ Some x →
+        IsGood m t.memory frame.call (word_of held v) x.datum
+    param_good v x at p at_p names at_x = record {
       bits = λ bit kind has e. by bit kind has e;
       classes = λ b o points alive.
-          in_class mem frame.call (word_of held v) b Argument (at, x, at_x, subst (PointsTo b) (sym points) refl)
+          in_class t.memory frame.call (word_of held v) b Argument (at, x, at_x, subst (PointsTo b) (sym points) refl)
           (λ has. (value_rule m held is v (class_bit Argument) (NotTo Argument) has (class_fact Argument)).param f at is_param);
     }
       where
         is_param : IsParamAt m f at v
         is_param = let found = param_found m f at p at_p in (found.0, p, found.1, found.2, names)
 
-        by : (bit : ℕ) (kind : ValueFact) → word_of held v bit ≡ true → value_fact bit ≡ Some kind → Says frame.call (Some kind) x.datum
+        by : (bit : ℕ) (kind : ValueFact) → word_of held v bit ≡ true → value_fact bit ≡ Some kind → Says m t.memory frame.call (Some kind) x.datum
         by bit (SameAs i) has e = λ y at_y.
             let one : at ≡ i = (value_rule m held is v bit (SameAs i) has e).param f at is_param in
             ap (λ (z : Value). z.datum) (same_Some x y (sym at_x ∙ (ap (slice_get args) one ∙ at_y)))
         by bit NonNull has e = entry_nonnull at bit x at_x ((value_rule m held is v bit NonNull has e).param f at is_param) e
-        by bit (AlignedTo bytes) has e = tt
+        by bit (AlignedTo bytes) has e = entry_aligned at bit bytes x at_x ((value_rule m held is v bit (AlignedTo bytes) has e).param f at is_param) e
         by bit (HasBytes count) has e = tt
         by bit (NotTo class) has e = tt
         by bit (UsedSo kind) has e = tt
 
     -- the frame that begins is as is kept of frames
-    pub begins_good : (mem : Memory) → FrameIsGood mem (Body frame)
-    begins_good mem = record {
+    pub begins_good : FrameIsGood t.memory (Body frame)
+    begins_good = record {
       kind = record {
-        values = λ v x at. let found = bound_at (params_of m f) args v x at in param_good mem v x found.0 found.1 found.2 found.3 found.4;
-        entry = entry_nonnull;
+        values = λ v x at. let found = bound_at (params_of m f) args v x at in param_good v x found.0 found.1 found.2 found.3 found.4;
+        entry = entry_says;
         there = λ at p at_p. entered_there t.memory (params_of m f) (passed_to m t passing) args at p enters (params_at m f at p at_p);
       };
       args = λ at x at_x.
@@ -316,20 +348,22 @@ module _ (m : Module) (held : Fact → Bool) (is : JustifiesItself m held) where
   -- ---- what is passed by a module frame
 
   module _ (here : Here) (sc : Scope) (blocks : AreBlocks here.state.memory sc) (homes : HasHomes m here.state.memory)
-      (good : AreGood held here.state.memory here.frame.call here.frame.values) (live : held (dead_at here.frame.spot) ≡ false)
+      (good : AreGood m held here.state.memory here.frame.call here.frame.values) (live : held (dead_at here.frame.spot) ≡ false)
       (at : instr_at m here.frame.spot ≡ Some here.instr) where
-    -- an argument of an inner call is not null where each argument that is passed there is not
-    pub passed_nonnull : (call : Call) (xs : List Value) (f at' bit : ℕ) (y : Value) → call_of here.instr.op ≡ Some call → AreRead m here call.args xs →
-        inner_callee m here.instr.op ≡ Some f → EachPassed m held f at' bit → value_fact bit ≡ Some NonNull →
-        slice_get (passed_to m here.state (passing_at here call xs)) at' ≡ Some y → IsNonnull y.datum
-    passed_nonnull call xs f at' bit y is_call reads inner each e at_y =
+    -- an argument of an inner call is what each argument that is passed there is
+    pub passed_says : (call : Call) (xs : List Value) (f at' bit : ℕ) (kind : ValueFact) (y : Value) → call_of here.instr.op ≡ Some call →
+        AreRead m here call.args xs → inner_callee m here.instr.op ≡ Some f → EachPassed m held f at' bit → value_fact bit ≡ Some kind →
+        slice_get (passed_to m here.state (passing_at here call xs)) at' ≡ Some y → SaysAlone m here.state.memory kind y.datum
+    passed_says call xs f at' bit kind y is_call reads inner each e at_y =
         let from = passed_from m here.state.next_call 0 (map (λ (w : Written). w.ty) call.args) xs at' y at_y in
         let one = read_at m here call.args xs at' from.0 reads from.1 in
         let has = each here.frame.spot here.instr
         (record { at_spot = at; is_call = direct (direct_callee m here.instr.op) refl (is_inner m here.instr.op) inner; live = live }) in
         let word : written_has m held one.0 bit ≡ true = subst (λ found. option_map_or (λ w. written_has m held w bit) found false ≡ true)
         (ap (option_and_then (λ (call : Call). slice_get call.args at')) is_call ∙ one.1) has in
-        subst IsNonnull (sym from.2) ((operand_good m held is here sc blocks homes good 0 one.0 from.0 one.2).bits bit NonNull word e)
+        subst (SaysAlone m here.state.memory kind) (sym from.2)
+        (alone m here.state.memory here.frame.call kind from.0.datum
+        ((operand_good m held is here sc blocks homes good 0 one.0 from.0 one.2).bits bit kind word e))
       where
         direct : (found : Option FuncId) → direct_callee m here.instr.op ≡ found → (b : Bool) → callee_in b found ≡ Some f →
             direct_callee m here.instr.op ≡ Some (record { 0 = f })

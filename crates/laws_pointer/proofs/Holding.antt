@@ -1,36 +1,35 @@
 -- From single steps to whole runs: values, entries and returns are as their words say, but for alignment and bytes.
-use Rattle.std.proofs.Common.{◌≡◌, ◌≢◌, ℕ, ◌-◌, ◌==◌, ◌&&◌, ◌||◌, not, nat_le, nat_lt, Bool, true, false, if◌then◌else◌, List, [], ◌∷◌, slice_get}
+use Rattle.std.proofs.Common.{◌≡◌, ℕ, ◌-◌, ◌==◌, ◌&&◌, ◌||◌, not, nat_le, nat_lt, Bool, true, false, if◌then◌else◌, List, slice_get}
 use Rattle.std.proofs.Common.{slice_index, All}
 use Rattle.std.proofs.Common.{Option, None, Some, refl, sym, ap, subst, ◌∙◌, true≢false, arith}
 use Rattle.std.specs.List.{AllByRecursion}
 use Rattle.std.proofs.lemmas.Bool.{and_parts, leb-true, ltb-true}
-use Rattle.std.proofs.lemmas.Option.{same_Some}
+use Rattle.std.proofs.lemmas.Option.{none-some, same_Some}
 use Rattle.std.proofs.lemmas.List.Elements.{recursion_from_All, All-from_recursion}
 use Rattle.shelf.proofs.Every.{every_mapped}
 use Rattle.lattice_words.specs.Ladders.{is_byte_bit, is_align_bit, byte_rungs, align_rungs}
 use Rattle.lattice_words.specs.declared.value.TheConstants as value
 use Rattle.ir_module.specs.declared.module.Linkage.{Linkage}
-use Rattle.ir_module.specs.declared.module.Linkage.TheVariants as linkage
 use Rattle.ir_module.specs.declared.module.Module.{Module}
 use Rattle.ir_module.specs.declared.module.Spot.{Spot}
 use Rattle.ir_module.specs.WellFormed.{IsWellFormed}
 use Rattle.facts.specs.Bodies.{is_body, param_of}
 use Rattle.facts.specs.Masks.{is_pointer_param, has_bit_of}
-use Rattle.facts.specs.Kinds.{ValueFact, SameAs, NonNull, AlignedTo, HasBytes, NotTo, UsedSo, UseFact, CapturedByReturnAlone, NotReturned, NotThrough, Access}
+use Rattle.facts.specs.Kinds.{ValueFact, SameAs, NonNull, AlignedTo, HasBytes, NotTo, UsedSo, UseFact, CapturedByReturnAlone, NotReturned, NotThrough}
 use Rattle.facts.specs.Kinds.{Read as Reads, Write as Writes, OwnAlloca, Argument, Global, Unknown, class_bit, value_fact, class_fact as class_of_bit, use_fact}
 use Rattle.facts.specs.Facts.{Fact, of_value, at_entry, of_return}
 use Rattle.ir_machine.specs.declared.choice.Choice.{Choice}
 use Rattle.ir_machine.specs.declared.choice.Datum.{Datum}
 use Rattle.ir_machine.specs.declared.choice.Value.{Value}
-use Rattle.ir_machine.specs.Memory.{Memory}
-use Rattle.ir_machine.specs.Frames.{Made, Lowest, At, Begun, Active, active, Frame, Body, Outside, State, Event}
-use Rattle.ir_machine.specs.Moves.{Outcome, Gives, Undefined, Over, Plan}
+use Rattle.ir_machine.specs.Memory.{Memory, OfSymbol}
+use Rattle.ir_machine.specs.Frames.{Lowest, At, Begun, Active, active, Frame, Body, Outside, State}
 use Rattle.ir_machine.specs.Steps.{plan}
-use Rattle.ir_machine.specs.Runs.{HasHome, Done, done, IsOpening, run, events_of}
-use Rattle.ir_machine.specs.Meanings.{BeginsIn, IsBy}
+use Rattle.std.proofs.Common.{◌<◌}
+use Rattle.ir_module.specs.declared.op.Symbol.{Symbol}
+use Rattle.ir_machine.specs.Runs.{linkage_of, HasHome, IsShapeOf, Done, done, IsOpening, run, events_of}
 use Rattle.ir_machine.specs.Honest.{IsFair, IsHonest}
 use Rattle.ir_machine.specs.Valid.{IsValid}
-use Rattle.ir_machine.proofs.Basics.{OnOutcome, outcome_mapped, Along, Shown, of_steps}
+use Rattle.ir_machine.proofs.Basics.{outcome_mapped, Along, Shown, of_steps}
 use Rattle.ir_machine.proofs.Linked.{Linked, RunTheirCallees, all_linked}
 use Rattle.ir_machine.proofs.Arguments.{Passed, all_passed}
 use Rattle.ir_machine.proofs.Opening.{opening_valid}
@@ -44,7 +43,7 @@ use Rattle.laws_pointer.proofs.Good.{IsGood}
 use Rattle.laws_pointer.proofs.Stepping.{Given, Good, Asked, Inv, law}
 use Rattle.laws_pointer.proofs.Acting.{pointer_step}
 use Rattle.laws_pointer.proofs.Quiet.{run_given, both_of, said_well, Says_well}
-use Rattle.laws_pointer.proofs.Results.{return_word, same_bit}
+use Rattle.laws_pointer.proofs.Results.{return_word}
 use Rattle.laws_pointer.proofs.Returning.{ReturnsGood, Known, returns_step}
 
 -- ---- bits that speak of numbers
@@ -54,11 +53,11 @@ NoNumber (Some (AlignedTo bytes)) = ⊥
 NoNumber (Some (HasBytes count)) = ⊥
 NoNumber _ = Unit {0}
 
-never_when : (N : Option ValueFact → Type 0) (b : Bool) (k rest : Option ValueFact) → (b ≡ true → N k) → N rest → N (if b then k else rest)
+pub never_when : (N : Option ValueFact → Type 0) (b : Bool) (k rest : Option ValueFact) → (b ≡ true → N k) → N rest → N (if b then k else rest)
 never_when N true k rest at_k at_rest = at_k refl
 never_when N false k rest at_k at_rest = at_rest
 
-use_none : (N : Option ValueFact → Type 0) → N None → ((kind : UseFact) → N (Some (UsedSo kind))) → (bit : ℕ) → N (use_fact bit)
+pub use_none : (N : Option ValueFact → Type 0) → N None → ((kind : UseFact) → N (Some (UsedSo kind))) → (bit : ℕ) → N (use_fact bit)
 use_none N none uses bit =
     never_when N (bit == value.CAPTURED_BY_RETURN_ALONE) (Some (UsedSo CapturedByReturnAlone)) _ (λ _. uses CapturedByReturnAlone)
     (never_when N (bit == value.NOT_RETURNED) (Some (UsedSo NotReturned)) _ (λ _. uses NotReturned)
@@ -91,7 +90,7 @@ no_number bit off =
     second false true off on = true≢false off
     second false false off on = true≢false (sym on)
 
-abbrev NoSame : Option ValueFact → Type 0
+abbrev pub NoSame : Option ValueFact → Type 0
 NoSame (Some (SameAs i)) = ⊥
 NoSame _ = Unit {0}
 
@@ -103,14 +102,14 @@ class_no_same bit =
     (never_when NoSame (bit == value.NOT_UNKNOWN) (Some (NotTo Unknown)) (use_fact bit) (λ _. tt) (use_none NoSame tt (λ kind. tt) bit))))
 
 -- bits from that of `nonnull` on are no bits of parameters
-no_same : (bit : ℕ) → (nat_lt bit value.SAME_AS_PARAMETERS ≡ true → ⊥) → NoSame (value_fact bit)
+pub no_same : (bit : ℕ) → (nat_lt bit value.SAME_AS_PARAMETERS ≡ true → ⊥) → NoSame (value_fact bit)
 no_same bit high =
     never_when NoSame (nat_lt bit value.SAME_AS_PARAMETERS) (Some (SameAs bit)) _ high
     (never_when NoSame (bit == value.NONNULL) (Some NonNull) _ (λ _. tt)
     (never_when NoSame (is_align_bit bit) (Some (AlignedTo (slice_index align_rungs (bit - value.ALIGN_2)))) _ (λ _. tt)
     (never_when NoSame (is_byte_bit bit) (Some (HasBytes (slice_index byte_rungs (bit - value.BYTES_1)))) (class_of_bit bit) (λ _. tt) (class_no_same bit))))
 
-not_true : (b : Bool) → not b ≡ true → b ≡ false
+pub not_true : (b : Bool) → not b ≡ true → b ≡ false
 not_true true e = absurd (true≢false (sym e))
 not_true false e = refl
 
@@ -127,10 +126,10 @@ module _ (held : Fact → Bool) where
       let found = is b o e alive in
       (found.0, subst (λ h. (h && not (is_number_bit (fact (class_bit found.0)).bit)) ≡ false) (sym found.1) refl, found.2)
 
-  bits_without : (mem other : Memory) (call : Begun) (fact : ℕ → Fact) → ((bit : ℕ) → (fact bit).bit ≡ bit) → (d : Datum) →
-      IsGood mem call (λ bit. held (fact bit)) d →
+  bits_without : (m : Module) (mem other : Memory) (call : Begun) (fact : ℕ → Fact) → ((bit : ℕ) → (fact bit).bit ≡ bit) → (d : Datum) →
+      IsGood m mem call (λ bit. held (fact bit)) d →
       BitsHold other call (λ bit. but_numbers held (fact bit)) d
-  bits_without mem other call fact same d good bit has =
+  bits_without m mem other call fact same d good bit has =
       let two = parts_of (fact bit) has in
       by (value_fact bit) refl (no_number bit (subst (λ n. is_number_bit n ≡ false) (same bit) two.1)) two.0
     where
@@ -143,15 +142,16 @@ module _ (held : Fact → Bool) where
       by (Some (NotTo class)) e none h = tt
       by (Some (UsedSo kind)) e none h = tt
 
-  right_without : (mem : Memory) (call : Begun) (fact : ℕ → Fact) → ((bit : ℕ) → (fact bit).bit ≡ bit) → (d : Datum) →
-      IsGood mem call (λ bit. held (fact bit)) d →
+  right_without : (m : Module) (mem : Memory) (call : Begun) (fact : ℕ → Fact) → ((bit : ℕ) → (fact bit).bit ≡ bit) → (d : Datum) →
+      IsGood m mem call (λ bit. held (fact bit)) d →
       IsRight mem call (λ bit. but_numbers held (fact bit)) d
-  right_without mem call fact same d good = record { bits = bits_without mem mem call fact same d good; classes = classes_without mem call fact d good.classes }
+  right_without m mem call fact same d good =
+      record { bits = bits_without m mem mem call fact same d good; classes = classes_without mem call fact d good.classes }
 
 module _ (m : Module) (formed : IsWellFormed m) (held : Fact → Bool) (is : JustifiesItself m held) where
   frame_right : (mem : Memory) (frame : Frame) → Good m formed held is mem frame → FrameIsRight (but_numbers held) mem frame
   frame_right mem (Outside frame) good = tt
-  frame_right mem (Body frame) good = λ v x at. right_without held mem frame.call (of_value v) (λ bit. refl) x.datum (good.kind.values v x at)
+  frame_right mem (Body frame) good = λ v x at. right_without held m mem frame.call (of_value v) (λ bit. refl) x.datum (good.kind.values v x at)
 
   frames_right : (t : State) → Inv m formed held is t → FramesAreRight (but_numbers held) t
   frames_right t inv = every_mapped (Good m formed held is t.memory) (FrameIsRight (but_numbers held) t.memory) t.stack (frame_right t.memory) inv.frames
@@ -188,7 +188,8 @@ module _ (m : Module) (formed : IsWellFormed m) (held : Fact → Bool) (is : Jus
           no_body e = cc
       by (Body frame) same good (Some NonNull) e none other h =
           let func : frame.func ≡ f = same_Some frame.func f (ap (λ (a : Active). a.body) same ∙ body) in
-          good.kind.entry at bit x (ap (λ (a : Active). slice_get a.call.args at) same ∙ at_x) (subst (λ f. held (at_entry f at bit) ≡ true) (sym func) h) e
+          good.kind.entry at bit NonNull x (ap (λ (a : Active). slice_get a.call.args at) same ∙ at_x) (subst (λ f. held (at_entry f at bit) ≡ true)
+          (sym func) h) e
 
   -- ---- returns
 
@@ -197,11 +198,11 @@ module _ (m : Module) (formed : IsWellFormed m) (held : Fact → Bool) (is : Jus
       All-from_recursion (λ e. (a : Active) (x : Value) → a.body ≡ Some f → IsReturnOf a x e → ReturnHolds (but_numbers held) f d a x) d.events
       (every_mapped (ReturnsGood m formed held is d.before)
       (λ e. (a : Active) (x : Value) → a.body ≡ Some f → IsReturnOf a x e → ReturnHolds (but_numbers held) f d a x) d.events
-      (λ e good a x body returns. one a x (good a x f body returns.0 returns.1)) all)
+      (λ e good a x body returns. one a x (good a x f body returns.0 returns.1).good) all)
     where
-      one : (a : Active) (x : Value) → IsGood d.before.memory a.call (return_word m held is f) x.datum → ReturnHolds (but_numbers held) f d a x
+      one : (a : Active) (x : Value) → IsGood m d.before.memory a.call (return_word m held is f) x.datum → ReturnHolds (but_numbers held) f d a x
       one a x good = record {
-        bits = bits_without held d.before.memory d.next.memory a.call (of_return f) (λ bit. refl) x.datum good;
+        bits = bits_without held m d.before.memory d.next.memory a.call (of_return f) (λ bit. refl) x.datum good;
         classes = classes_without held d.before.memory a.call (of_return f) x.datum good.classes;
       }
 
@@ -216,11 +217,26 @@ module _ (m : Module) (formed : IsWellFormed m) (held : Fact → Bool) (is : Jus
     opening_good = record {
       frames = subst (AllByRecursion (Good m formed held is opening.memory)) (sym opens.stack)
           (record { kind = refl; args = λ at x e. absurd (cc); passed = λ s instr call at w made at_s is_call at_w. absurd (lowest s made) }, tt);
-      homes = λ s link e none. subst (HasHome opening.memory s link) none (opens.memory.homes s link e);
+      homes = record {
+        weak = λ s link e none. subst (HasHome opening.memory s link) none (opens.memory.homes s link e);
+        shape = λ s b home. by_symbol s b home (linkage_of m s) refl;
+      };
     }
       where
         lowest : (s : Spot) → Lowest ≡ At s → ⊥
         lowest s e = cc
+
+        same_symbol : {a s : Symbol} → OfSymbol a ≡ OfSymbol s → a ≡ s
+        same_symbol e = cc
+
+        by_symbol : (s : Symbol) (b : ℕ) → opening.memory.home s ≡ Some b → (link : Option Linkage) → linkage_of m s ≡ link →
+            IsShapeOf m (opening.memory.shape b) s
+        by_symbol s b home None e = absurd (none-some b (sym (opens.memory.strangers s e) ∙ home))
+        by_symbol s b home (Some link) e =
+            let has : (b < opening.memory.count) × ((opening.memory.shape b).kind ≡ OfSymbol s) =
+            subst (HasHome opening.memory s link) home (opens.memory.homes s link e) in
+            let block = opens.memory.blocks b has.0 in
+            subst (IsShapeOf m (opening.memory.shape b)) (same_symbol (sym block.kind ∙ has.1)) block.shape
 
     given_all : AllByRecursion (Given m held) steps
     given_all =
@@ -242,7 +258,7 @@ module _ (m : Module) (formed : IsWellFormed m) (held : Fact → Bool) (is : Jus
         (recursion_from_All (IsControlled m held) steps controlled) (recursion_from_All (PassesAddresses m) steps typed))
         (of_steps (IsFair m) steps (recursion_from_All (IsFair m) (events_of steps) honest)))
 
-    shown : AllByRecursion (Shown (λ t. IsValid t × Inv m formed held is t) (λ e. Unit {0})) steps
+    pub shown : AllByRecursion (Shown (λ t. IsValid t × Inv m formed held is t) (λ e. Unit {0})) steps
     shown =
         valid_run m (Inv m formed held is) (Given m held) (Asked m formed held is) (λ e. Unit {0}) (law m formed held is)
         (λ t choice valid inv. pointer_step m formed held is t valid inv choice) choices opening (opening_valid m opening opens) opening_good given_all
@@ -252,7 +268,7 @@ module _ (m : Module) (formed : IsWellFormed m) (held : Fact → Bool) (is : Jus
         both_of (Given m held) (Shown (λ t. IsValid t × Inv m formed held is t) (λ e. Unit {0})) (Known m formed held is) steps
         (λ d given s. record { given = given; valid = s.before.0; inv = s.before.1 }) given_all shown
 
-    returned_all : AllByRecursion (λ (d : Done). AllByRecursion (ReturnsGood m formed held is d.before) d.events) steps
+    pub returned_all : AllByRecursion (λ (d : Done). AllByRecursion (ReturnsGood m formed held is d.before) d.events) steps
     returned_all =
         run_given m (Known m formed held is) (λ (d : Done). AllByRecursion (ReturnsGood m formed held is d.before) d.events)
         (λ t choice. outcome_mapped (λ moves. Known m formed held is (done t moves) → Along (Says_well (ReturnsGood m formed held is t)) t moves)

@@ -1,3 +1,5 @@
+pub mod Placed
+pub mod Strides
 pub mod Good
 pub mod Rules
 pub mod Frames

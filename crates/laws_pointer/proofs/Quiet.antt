@@ -1,5 +1,5 @@
 -- Steps by what happens in them: most moves say nothing that is asked of.
-use Rattle.std.proofs.Common.{◌≡◌, ℕ, Bool, true, false, if◌then◌else◌, List, [], ◌∷◌, slice_get, map, All, Option, None, Some, refl, sym, subst}
+use Rattle.std.proofs.Common.{Bool, true, false, if◌then◌else◌, List, [], ◌∷◌}
 use Rattle.std.specs.List.{AllByRecursion}
 use Rattle.ir_module.specs.declared.op.Written.{Written}
 use Rattle.ir_module.specs.declared.module.Module.{Module}
@@ -10,11 +10,11 @@ use Rattle.ir_machine.specs.declared.choice.Value.{Value}
 use Rattle.ir_machine.specs.declared.choice.Choice.{Choice}
 use Rattle.ir_machine.specs.Memory.{Memory, Live, Closed, is_dead}
 use Rattle.ir_machine.specs.Frames.{Frame, State, What, Event, event}
-use Rattle.ir_machine.specs.Moves.{Move, Says, Grows, Turns, Fills, Keeps, Sets, Goes, Takes, Begins, Ends, moved, after, said, Gives, Undefined, Over, Plan}
+use Rattle.ir_machine.specs.Moves.{Move, Says, Grows, Turns, Fills, Keeps, Sets, Goes, Takes, Begins, Ends, after, said, Gives, Undefined, Over, Plan}
 use Rattle.ir_machine.specs.Calls.{marks_last, turns, is_alloca_result}
 use Rattle.ir_machine.specs.Steps.{plan}
 use Rattle.ir_machine.specs.Runs.{Done, done, done_by, run}
-use Rattle.ir_machine.proofs.Basics.{OnOutcome, Along, Law, shown_said}
+use Rattle.ir_machine.proofs.Basics.{OnOutcome, Along, shown_said}
 
 -- where P is given of every step, and so R is shown of each step by itself, R holds of every step
 module _ (m : Module) (P R : Done → Type 0) (each : (t : State) (choice : Choice) →

@@ -1,8 +1,8 @@
 -- What comes back from a call is as the word of its result says.
-use Rattle.std.proofs.Common.{◌≡◌, ◌≢◌, ℕ, zero, suc, ◌+◌, ◌==◌, ◌&&◌, ◌||◌, ◌<◌, not, nat_lt, Bool, true, false, if◌then◌else◌, List, [], ◌∷◌, slice_get}
+use Rattle.std.proofs.Common.{◌≡◌, ◌≢◌, ℕ, zero, suc, ◌+◌, ◌==◌, ◌||◌, ◌<◌, not, nat_lt, Bool, true, false, if◌then◌else◌, List, [], ◌∷◌, slice_get}
 use Rattle.std.proofs.Common.{slice_index, ◌-◌, map}
-use Rattle.std.proofs.Common.{Option, None, Some, is_some, refl, sym, ap, subst, ◌∙◌, ◌⊎◌, inl, inr, MatchOption, true≢false, arith}
-use Rattle.std.specs.List.{AllByRecursion, list_any}
+use Rattle.std.proofs.Common.{Option, None, Some, refl, sym, ap, subst, ◌∙◌, ◌⊎◌, inl, inr, MatchOption, true≢false, arith}
+use Rattle.std.specs.List.{list_any}
 use Rattle.std.specs.Option.{option_map_or, option_and_then}
 use Rattle.std.proofs.lemmas.Bool.{and_parts, lt-ltb}
 use Rattle.std.proofs.lemmas.Option.{same_Some}
@@ -17,45 +17,41 @@ use Rattle.ir_module.specs.declared.op.Op.{Op}
 use Rattle.ir_module.specs.declared.op.Op.TheVariants as op
 use Rattle.ir_module.specs.declared.op.Operand.{Operand}
 use Rattle.ir_module.specs.declared.op.Operand.TheVariants as operand
-use Rattle.ir_module.specs.declared.op.Symbol.{Symbol}
 use Rattle.ir_module.specs.declared.op.Symbol.TheVariants as symbol
 use Rattle.ir_module.specs.declared.op.Instr.{Instr}
 use Rattle.ir_module.specs.declared.op.Written.{Written}
-use Rattle.ir_module.specs.declared.module.GlobalVar.{GlobalVar}
-use Rattle.ir_module.specs.declared.module.Func.{Func}
 use Rattle.ir_module.specs.declared.module.Param.{Param}
 use Rattle.ir_module.specs.declared.module.Spot.{Spot}
 use Rattle.ir_module.specs.declared.module.Module.{Module}
-use Rattle.ir_module.specs.Places.{instr_at, IsIn}
-use Rattle.ir_module.specs.Calls.{Promise, Returned, call_of, is_call, inner_callee, is_promised, promising}
+use Rattle.ir_module.specs.Places.{instr_at}
+use Rattle.ir_module.specs.Calls.{Returned, call_of, is_call, inner_callee, promising}
 use Rattle.facts.specs.Bodies.{is_pointer, param_of}
-use Rattle.facts.specs.Kinds.{ValueFact, SameAs, NonNull, AlignedTo, HasBytes, NotTo, UsedSo, UseFact, CapturedByReturnAlone, NotReturned, NotThrough}
-use Rattle.facts.specs.Kinds.{Access, Read as Reads, Write as Writes, BlockClass, OwnAlloca, Argument, Global, Unknown, class_bit, value_fact}
+use Rattle.facts.specs.Kinds.{ValueFact, SameAs, NonNull, AlignedTo, HasBytes, NotTo, UsedSo, CapturedByReturnAlone, NotReturned, NotThrough}
+use Rattle.facts.specs.Kinds.{Read as Reads, Write as Writes, BlockClass, OwnAlloca, Argument, Global, Unknown, class_bit, value_fact}
 use Rattle.facts.specs.Kinds.{class_fact as class_of_bit, use_fact}
-use Rattle.facts.specs.Facts.{Fact, of_return, of_value}
+use Rattle.facts.specs.Facts.{Fact, of_return}
 use Rattle.facts.specs.Displacements.{constant_displacement}
-use Rattle.facts.specs.Known.{global_has, func_has, symbol_has, symbol_bit, table_bit, null_has, undef_has, poison_has, moved_by, operand_has, written_has}
+use Rattle.facts.specs.Known.{symbol_has, symbol_bit, table_bit, null_has, undef_has, poison_has, moved_by, operand_has, written_has}
 use Rattle.facts.specs.Known.{arg_at, arg_has}
-use Rattle.facts.specs.Known.{PointersHave}
-use Rattle.facts.specs.Promises.{gives_nonnull, may_poison, returns_promised}
-use Rattle.facts.specs.Same.{keeps_param, GivesBack, PromisesBack, CallIsSame}
+use Rattle.facts.specs.Promises.{gives_nonnull, gives_align, may_poison}
+use Rattle.facts.specs.Same.{GivesBack, PromisesBack, CallIsSame}
 use Rattle.facts.specs.Pointer.{InnerHas, OuterHas, CallHas}
 use Rattle.ir_machine.specs.declared.choice.Datum.{Datum}
 use Rattle.ir_machine.specs.declared.choice.Datum.TheVariants as datum
 use Rattle.ir_machine.specs.declared.choice.Value.{Value}
-use Rattle.ir_machine.specs.Values.{marked}
-use Rattle.ir_machine.specs.Memory.{Memory, OfSymbol, OfAlloca, Dead}
-use Rattle.ir_machine.specs.Frames.{Made, At, Begun, Active, active, BodyFrame, OutsideFrame, Frame, Body, Outside, call_of as call_in, Return, Event}
+use Rattle.ir_machine.specs.Memory.{Memory, OfAlloca, Dead}
+use Rattle.ir_machine.specs.Frames.{At, Begun, active, BodyFrame, Frame, call_of as call_in, Return, Event}
 use Rattle.ir_machine.specs.Moves.{Gives}
 use Rattle.ir_machine.specs.Reading.{Values}
 use Rattle.ir_machine.specs.Calls.{acted_on}
 use Rattle.ir_machine.specs.Arguments.{Homes, IsValueOf, IsPassed, ArePassed, IsPassedBy}
-use Rattle.ir_machine.specs.Meanings.{IsBy, IsNonnull, PointsTo}
+use Rattle.ir_machine.specs.Meanings.{IsBy, PointsTo}
 use Rattle.ir_machine.specs.Honest.{IsFair, promised_to, promised_at, promised_in}
 use Rattle.ir_machine.specs.Valid.{Scope, AreBlocks, IsLater, IsAmongFirst}
-use Rattle.fact_meanings.specs.Values.{IsOfClass, IsInClasses}
+use Rattle.fact_meanings.specs.Values.{IsOfClass}
 use Rattle.law_premises.specs.Premises.{JustifiesItself}
 use Rattle.law_premises.specs.Types.{HasTypedAddresses}
+use Rattle.laws_pointer.proofs.Good.{placed_later}
 use Rattle.laws_pointer.proofs.Good.{Says, IsGood, word_of, class_fact, in_class, unknown_classes, class_later, AreGood, symbol_same, symbol_is_global}
 use Rattle.laws_pointer.proofs.Rules.{RuleOf, HasRules, acted, acted_kept}
 use Rattle.laws_pointer.proofs.Frames.{MayPoison, KeepsArgs, HasPassed}
@@ -132,9 +128,10 @@ table_same : (has : ValueFact → Bool) (i : ℕ) → has (SameAs i) ≡ false �
 table_same has i none bit e is = true≢false (sym (subst (λ found. option_map_or has found false ≡ true) is e) ∙ none)
 
 -- only a value can be the same as a parameter
-same_operand : (m : Module) (held : Fact → Bool) (mem : Memory) (call : Begun) (values : Values) → AreGood held mem call values →
+same_operand : (m : Module) (held : Fact → Bool) (mem : Memory) (call : Begun) (values : Values) → AreGood m held mem call values →
     (home : Homes) (t : TypeId) (o : Operand)
-    (z : Value) (i : ℕ) → IsValueOf home values o z → operand_has m held t o i ≡ true → value_fact i ≡ Some (SameAs i) → Says call (Some (SameAs i)) z.datum
+    (z : Value) (i : ℕ) → IsValueOf home values o z → operand_has m held t o i ≡ true → value_fact i ≡ Some (SameAs i) →
+    Says m mem call (Some (SameAs i)) z.datum
 same_operand m held mem call values good home t (operand.Value v) z i is has e = (good v.0 z is).bits i (SameAs i) has e
 same_operand m held mem call values good home t (operand.Int bits here) z i is has e = absurd (true≢false (sym has))
 same_operand m held mem call values good home t (operand.Truth b) z i is has e = absurd (true≢false (sym has))
@@ -155,7 +152,7 @@ same_operand m held mem call values good home t (operand.AnyInt first count) z i
 
 -- a class of the block of an operand that its word leaves
 operand_class : (m : Module) (held : Fact → Bool) (mem : Memory) (s : Scope) → AreBlocks mem s → (call : Begun) (values : Values) →
-    AreGood held mem call values →
+    AreGood m held mem call values →
     (t : TypeId) (o : Operand) (y : Value) (b off : ℕ) → IsValueOf mem.home values o y → y.datum ≡ datum.Ptr b off → mem.life b ≢ Dead →
     (class : BlockClass) × (operand_has m held t o (class_bit class) ≡ false) × IsOfClass mem call class b
 operand_class m held mem s blocks call values good t o y b off is points alive = by o is
@@ -226,7 +223,7 @@ module _ (m : Module) (held : Fact → Bool) (is : JustifiesItself m held) where
     pub typed : HasTypedAddresses m top
     pub args : KeepsArgs m held is top
     pub all : HasPassed m held is top
-    pub values : AreGood held mem under.call under.values
+    pub values : AreGood m held mem under.call under.values
     pub rules : HasRules m held is under.func v.0 under.spot instr.op
 
   module _ (mem later : Memory) (s : Scope) (top : Frame) (under : BodyFrame) (instr : Instr) (v : ValueId) (c : ComesBack mem later s top under instr v) where
@@ -263,15 +260,15 @@ module _ (m : Module) (held : Fact → Bool) (is : JustifiesItself m held) where
 
     -- an argument that is the same as a parameter of the caller
     same_arg : (at i : ℕ) (y : Value) → slice_get (call_in top).passed at ≡ Some y → arg_has m held instr.op at i ≡ true → value_fact i ≡ Some (SameAs i) →
-        Says under.call (Some (SameAs i)) y.datum
+        Says m mem under.call (Some (SameAs i)) y.datum
     same_arg at i y at_y has e =
         let o = operand_of at y at_y in
-        subst (Says under.call (Some (SameAs i))) (sym o.datum)
+        subst (Says m mem under.call (Some (SameAs i))) (sym o.datum)
         (same_operand m held mem under.call under.values c.values mem.home o.written.ty o.written.val o.value i o.is_value (arg_word at i y o has) e)
 
     -- ---- an inner call
 
-    module _ (g : ℕ) (inner : inner_callee m instr.op ≡ Some g) (w : Value) (returned : IsGood mem (call_in top) (return_word g) w.datum)
+    module _ (g : ℕ) (inner : inner_callee m instr.op ≡ Some g) (w : Value) (returned : IsGood m mem (call_in top) (return_word g) w.datum)
         (low : IsAmongFirst mem.count w.datum) (gone : (b n : ℕ) → (mem.shape b).kind ≡ OfAlloca (call_in top).number n → later.life b ≡ Dead)
         (there : (at : ℕ) (p : Param) → param_of m g at ≡ Some p → (x : Value) × (slice_get (call_in top).args at ≡ Some x))
         (kept : (at : ℕ) (p : Param) (x : Value) → param_of m g at ≡ Some p → may_poison p.attrs ≡ false → slice_get (call_in top).args at ≡ Some x →
@@ -280,7 +277,7 @@ module _ (m : Module) (held : Fact → Bool) (is : JustifiesItself m held) where
       has_inner bit kind has = subst (λ found. MatchOption found (OuterHas m held under.func v.0 instr.op kind)
           (λ g. InnerHas m held under.func v.0 instr.op bit g kind)) inner has
 
-      gives_back : (i : ℕ) → value_fact i ≡ Some (SameAs i) → GivesBack m held instr.op g i → Says under.call (Some (SameAs i)) w.datum
+      gives_back : (i : ℕ) → value_fact i ≡ Some (SameAs i) → GivesBack m held instr.op g i → Says m mem under.call (Some (SameAs i)) w.datum
       gives_back i e back x0 at_x0 =
           let param = found_param (param_of m g back.j) refl back.kept in
           let arg = there back.j param.0 param.1 in
@@ -297,13 +294,15 @@ module _ (m : Module) (held : Fact → Bool) (is : JustifiesItself m held) where
           found_param None e kept = absurd (true≢false (sym kept))
           found_param (Some p) e kept = (p, e, off_true (may_poison p.attrs) kept)
 
-      inner_says : (bit : ℕ) (kind : ValueFact) → value_fact bit ≡ Some kind → CallRule under.func v.0 instr.op bit kind → Says under.call (Some kind) w.datum
+      inner_says : (bit : ℕ) (kind : ValueFact) → value_fact bit ≡ Some kind → CallRule under.func v.0 instr.op bit kind →
+          Says m later under.call (Some kind) w.datum
       inner_says bit (SameAs i) e rule =
           let one : bit ≡ i = same_bit bit i e in
           gives_back i (subst (λ n. value_fact n ≡ Some (SameAs i)) one e)
           (subst (λ found. MatchOption found (PromisesBack m held instr.op i) (λ g. GivesBack m held instr.op g i)) inner rule)
       inner_says bit NonNull e rule = returned.bits bit NonNull (has_inner bit NonNull rule) e
-      inner_says bit (AlignedTo bytes) e rule = tt
+      inner_says bit (AlignedTo bytes) e rule = λ indices.
+          placed_later mem later c.is_later bytes w.datum low (returned.bits bit (AlignedTo bytes) (has_inner bit (AlignedTo bytes) rule) e indices)
       inner_says bit (HasBytes count) e rule = tt
       inner_says bit (NotTo class) e rule = tt
       inner_says bit (UsedSo kind) e rule = tt
@@ -342,7 +341,7 @@ module _ (m : Module) (held : Fact → Bool) (is : JustifiesItself m held) where
               ])
 
       -- the result of an inner call is as its word says
-      pub inner_good : IsGood later under.call (word_of held v.0) w.datum
+      pub inner_good : IsGood m later under.call (word_of held v.0) w.datum
       inner_good = record {
         bits = λ bit kind has e. inner_says bit kind e (rule bit kind has e);
         classes = λ b o points alive.
@@ -374,7 +373,7 @@ module _ (m : Module) (held : Fact → Bool) (is : JustifiesItself m held) where
       any_mapped test [] = refl
       any_mapped test (a ∷ attrs) = ap (λ b. test a.ret || b) (any_mapped test attrs)
 
-      promises_back : (i : ℕ) → value_fact i ≡ Some (SameAs i) → PromisesBack m held instr.op i → Says under.call (Some (SameAs i)) y.datum
+      promises_back : (i : ℕ) → value_fact i ≡ Some (SameAs i) → PromisesBack m held instr.op i → Says m mem under.call (Some (SameAs i)) y.datum
       promises_back i e' back x0 at_x0 =
           let written = arg_there (arg_at instr.op back.j) refl back.arg in
           let arg = c.all under.spot instr written.0 back.j written.1 c.made c.at written.2 written.3 in
@@ -408,7 +407,8 @@ module _ (m : Module) (held : Fact → Bool) (is : JustifiesItself m held) where
       has_outer kind bit has = subst (λ found. MatchOption found (OuterHas m held under.func v.0 instr.op kind)
           (λ g. InnerHas m held under.func v.0 instr.op bit g kind)) outer has
 
-      outer_says : (bit : ℕ) (kind : ValueFact) → value_fact bit ≡ Some kind → CallRule under.func v.0 instr.op bit kind → Says under.call (Some kind) y.datum
+      outer_says : (bit : ℕ) (kind : ValueFact) → value_fact bit ≡ Some kind → CallRule under.func v.0 instr.op bit kind →
+          Says m later under.call (Some kind) y.datum
       outer_says bit (SameAs i) e' rule =
           let one : bit ≡ i = same_bit bit i e' in
           promises_back i (subst (λ n. value_fact n ≡ Some (SameAs i)) one e')
@@ -416,13 +416,15 @@ module _ (m : Module) (held : Fact → Bool) (is : JustifiesItself m held) where
       outer_says bit NonNull e' rule =
           (acted later (map (λ (attrs : CallAttrs). attrs.ret) (promising m instr.op)) w y acts).nonnull
           (sym (any_mapped gives_nonnull (promising m instr.op)) ∙ has_outer NonNull bit rule)
-      outer_says bit (AlignedTo bytes) e' rule = tt
+      outer_says bit (AlignedTo bytes) e' rule = λ indices.
+          (acted later (map (λ (attrs : CallAttrs). attrs.ret) (promising m instr.op)) w y acts).aligned bytes
+          (sym (any_mapped (gives_align bytes) (promising m instr.op)) ∙ has_outer (AlignedTo bytes) bit rule)
       outer_says bit (HasBytes count) e' rule = tt
       outer_says bit (NotTo class) e' rule = tt
       outer_says bit (UsedSo kind) e' rule = tt
 
       -- the result of an outer call is as its word says
-      pub outer_good : IsGood later under.call (word_of held v.0) y.datum
+      pub outer_good : IsGood m later under.call (word_of held v.0) y.datum
       outer_good = record {
         bits = λ bit kind has e'. outer_says bit kind e' (rule bit kind has e');
         classes = unknown_classes later under.call (word_of held v.0) y.datum

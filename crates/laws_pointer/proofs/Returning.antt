@@ -1,5 +1,5 @@
 -- What a body returns is as the word of its return says, in the memory before the step.
-use Rattle.std.proofs.Common.{◌≡◌, ℕ, Bool, true, false, List, [], ◌∷◌, map, Option, None, Some, refl, sym, ap, subst, ◌∙◌}
+use Rattle.std.proofs.Common.{◌≡◌, ℕ, Bool, true, false, List, [], ◌∷◌, Option, None, Some, refl, sym, ap, subst, ◌∙◌}
 use Rattle.std.specs.List.{AllByRecursion}
 use Rattle.std.proofs.lemmas.Option.{same_Some}
 use Rattle.ir_module.specs.declared.op.Op.TheVariants as op
@@ -17,7 +17,7 @@ use Rattle.ir_machine.specs.Memory.{without_allocas}
 use Rattle.ir_machine.specs.Frames.{Active, active, BodyFrame, OutsideFrame, Frame, Body, Outside, State, What, Enter, Read, Write, HiddenRead, HiddenWrite}
 use Rattle.ir_machine.specs.Frames.{Free}
 use Rattle.ir_machine.specs.Frames.{Capture, Return, Unwind, Event, event}
-use Rattle.ir_machine.specs.Moves.{Move, Says, Grows, Fills, Sets, Goes, Begins, Ends, moved, says}
+use Rattle.ir_machine.specs.Moves.{Move, Says, Fills, Sets, Goes, Ends, moved, says}
 use Rattle.ir_machine.specs.Reading.{behind}
 use Rattle.ir_machine.specs.Access.{hidden, bytes_with}
 use Rattle.ir_machine.specs.Edges.{crossing}
@@ -25,11 +25,13 @@ use Rattle.ir_machine.specs.Calls.{body_frame, is_end_name}
 use Rattle.ir_machine.specs.Outside.{pointers_in, reads_at, captures_in, written_at, block_in, taking}
 use Rattle.ir_machine.specs.Steps.{plan}
 use Rattle.ir_machine.specs.Runs.{Done, done}
-use Rattle.ir_machine.specs.Links.{AreLinked, IsLinked}
+use Rattle.ir_machine.specs.Links.{IsLinked}
 use Rattle.ir_machine.specs.Meanings.{IsBy}
-use Rattle.ir_machine.specs.Valid.{scope_of, IsValid}
+use Rattle.ir_machine.specs.Valid.{scope_of, IsValid, IsAmongFirst, Known as Valid, HasAll}
+use Rattle.ir_machine.proofs.Carried.{operand_has}
+use Rattle.ir_machine.proofs.Valid.{known_closed}
 use Rattle.ir_machine.proofs.Basics.{OnOutcome, Along}
-use Rattle.ir_machine.proofs.Instructions.{IsReadOr, EachKind, EachAct, by_step, here_in, passing_at, passing_in}
+use Rattle.ir_machine.proofs.Instructions.{IsRead, IsReadOr, EachKind, EachAct, by_step, here_in, passing_at, passing_in}
 use Rattle.ir_machine.proofs.Moving.{crossed, came, went_on, went_through, along_all, crossing_all, coming_all, going_all, through_all, taking_all}
 use Rattle.law_premises.specs.Premises.{JustifiesItself, StandLive}
 use Rattle.laws_pointer.proofs.Good.{IsGood}
@@ -40,10 +42,24 @@ use Rattle.laws_pointer.proofs.Acting.{ret_good}
 use Rattle.laws_pointer.proofs.Quiet.{Says_well, IsQuiet, quiet_says, marks_quiet}
 
 module _ (m : Module) (formed : IsWellFormed m) (held : Fact → Bool) (is : JustifiesItself m held) where
-  -- what a call of a body returns in this event, seen from the memory of this state
+  -- what a call of a body returns: as the word of its return says, an operand of a `ret` that was read there
+  pub record Returns (t : State) (a : Active) (x : Value) (f : ℕ) : Type 0 where
+    pub good : IsGood m t.memory a.call (return_word m held is f) x.datum
+    pub low : IsAmongFirst t.memory.count x.datum
+    pub frame : BodyFrame
+    pub below : List Frame
+    pub instr : Instr
+    pub written : Written
+    pub stack : t.stack ≡ Body frame ∷ below
+    pub func : frame.func ≡ f
+    pub at : instr_at m frame.spot ≡ Some instr
+    pub stands : IsIn m frame.func frame.spot
+    pub is_ret : instr.op ≡ op.Ret (Some written)
+    pub reads : IsRead m (here_in t frame below instr) written x
+
+  -- so in this event
   abbrev pub ReturnsGood : State → Event → Type 0
-  ReturnsGood t e = (a : Active) (x : Value) (f : ℕ) → a.body ≡ Some f → IsBy a e → e.what ≡ Return (Some x) →
-      IsGood t.memory a.call (return_word m held is f) x.datum
+  ReturnsGood t e = (a : Active) (x : Value) (f : ℕ) → a.body ≡ Some f → IsBy a e → e.what ≡ Return (Some x) → Returns t a x f
 
   -- what is known of a step
   pub record Known (d : Done) : Type 0 where
@@ -99,11 +115,28 @@ module _ (m : Module) (formed : IsWellFormed m) (held : Fact → Bool) (is : Jus
       let same : x ≡ y = cc in
       let func : frame.func ≡ f = same_Some frame.func f (ap (λ (a : Active). a.body) one ∙ body) in
       let values = (subst (AllByRecursion (Good m formed held is t.memory)) stack inv.frames).0.kind.values in
-      let good = ret_good m formed held is t frame below instr w x (stands_in m formed held is frame below (subst (IsLinked m) stack linked)) at live op_is
+      let stands = stands_in m formed held is frame below (subst (IsLinked m) stack linked) in
+      let good = ret_good m formed held is t frame below instr w x stands at live op_is
       (operand_good m held is (here_in t frame below instr) (scope_of t) valid.blocks inv.homes values 0 w x reads) in
-      subst (λ (a : Active). IsGood t.memory a.call (return_word m held is f) y.datum) one
-      (subst (λ (y : Value). IsGood t.memory frame.call (return_word m held is f) y.datum) same
-      (subst (λ f. IsGood t.memory frame.call (return_word m held is f) x.datum) func good))
+      let known = (subst (AllByRecursion (HasAll (Valid (scope_of t)))) stack valid.known.frames).0.1 in
+      record {
+        good = subst (λ (a : Active). IsGood m t.memory a.call (return_word m held is f) y.datum) one
+            (subst (λ (y : Value). IsGood m t.memory frame.call (return_word m held is f) y.datum) same
+            (subst (λ f. IsGood m t.memory frame.call (return_word m held is f) x.datum) func good));
+        low = subst (λ (y : Value). IsAmongFirst t.memory.count y.datum) same
+            (operand_has t.memory.count (Valid (scope_of t)) (known_closed.carried (scope_of t)) m (here_in t frame below instr) refl
+            (λ s b home. (valid.blocks.homes s b home).0) known w x reads).0;
+        frame = frame;
+        below = below;
+        instr = instr;
+        written = w;
+        stack = stack;
+        func = func;
+        at = at;
+        stands = stands;
+        is_ret = op_is;
+        reads = subst (IsRead m (here_in t frame below instr) w) same reads;
+      }
 
   outside_returns : (t : State) (frame : OutsideFrame) (below : List Frame) (x : Option Value) → ReturnsGood t (event (Outside frame ∷ below) (Return x))
   outside_returns t frame below x a y f body (rest, by) e =

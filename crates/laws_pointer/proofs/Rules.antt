@@ -1,9 +1,13 @@
 -- The rules of a value by its kinds of fact, and what instructions compute.
-use Rattle.std.proofs.Common.{◌≡◌, ◌≢◌, ℕ, zero, suc, ◌+◌, ◌==◌, ◌&&◌, ◌||◌, ◌<◌, not, nat_lt, Bool, true, false, if◌then◌else◌, List, [], ◌∷◌, slice_get, map}
-use Rattle.std.proofs.Common.{Option, None, Some, refl, sym, ap, subst, ◌∙◌, ◌⊎◌, inl, inr, MatchOption, true≢false}
+use Rattle.std.proofs.Common.{◌≡◌, ℕ, ◌==◌, ◌&&◌, ◌||◌, not, Bool, true, false, if◌then◌else◌, List, [], ◌∷◌}
+use Rattle.std.proofs.Common.{Some, refl, sym, subst, ◌∙◌, ◌⊎◌, inl, inr, MatchOption, true≢false}
 use Rattle.std.specs.List.{list_any, list_all}
-use Rattle.std.specs.Option.{option_map_or}
-use Rattle.std.proofs.lemmas.Bool.{and_parts, or_cases}
+use Rattle.std.proofs.Common.{◌%◌, ◌^◌, pos}
+use Rattle.std.specs.Prelude.{◌+ℤ◌, unsigned_abs}
+use Rattle.std.specs.Int.{◌∣◌}
+use Rattle.std.proofs.Math.IntN.{+ℤ_idl}
+use Rattle.std.proofs.lemmas.Nat.Gcd.{dvd_of_mod-eq-zero, mod-eq-zero_of_dvd, dvd_trans}
+use Rattle.std.proofs.lemmas.Bool.{and_parts, or_cases, eqb-true}
 use Rattle.attr_ids.specs.declared.ids.TypeId.{TypeId}
 use Rattle.attr_ids.specs.declared.ids.ValueId.{ValueId}
 use Rattle.ir_module.specs.declared.attrs.ParamAttrs.{ParamAttrs}
@@ -14,20 +18,21 @@ use Rattle.ir_module.specs.declared.op.Instr.{Instr}
 use Rattle.ir_module.specs.declared.module.Spot.{Spot}
 use Rattle.ir_module.specs.declared.module.Module.{Module}
 use Rattle.ir_module.specs.Places.{instr_at, IsIn}
-use Rattle.facts.specs.Kinds.{ValueFact, SameAs, NonNull, AlignedTo, HasBytes, NotTo, UsedSo, BlockClass, OwnAlloca, Argument, Global, Unknown, class_bit}
+use Rattle.facts.specs.Kinds.{ValueFact, SameAs, NonNull, AlignedTo, HasBytes, NotTo, UsedSo, BlockClass, Unknown, class_bit}
 use Rattle.facts.specs.Kinds.{value_fact}
 use Rattle.facts.specs.Facts.{Fact, of_value}
-use Rattle.facts.specs.Displacements.{displacement, steps}
+use Rattle.ir_ops.specs.Residue.{residue}
+use Rattle.facts.specs.Displacements.{Displacement, displacement, steps, fixed_part, keeps_align}
 use Rattle.facts.specs.Known.{written_has, moved_has}
-use Rattle.facts.specs.Promises.{gives_nonnull, may_poison}
-use Rattle.facts.specs.Same.{ResultIsSame, IsSame}
-use Rattle.facts.specs.Pointer.{ResultHas, PointerHas}
+use Rattle.facts.specs.Promises.{gives_nonnull, gives_align, may_poison}
+use Rattle.facts.specs.Same.{ResultIsSame}
+use Rattle.facts.specs.Pointer.{ResultHas}
 use Rattle.facts.specs.Justified.{ValueHas}
 use Rattle.ir_machine.specs.declared.choice.Datum.{Datum}
 use Rattle.ir_machine.specs.declared.choice.Datum.TheVariants as datum
 use Rattle.ir_machine.specs.declared.choice.Value.{Value}
 use Rattle.ir_machine.specs.Values.{plain, carried, is_null, is_undef}
-use Rattle.ir_machine.specs.Memory.{Memory, is_aligned}
+use Rattle.ir_machine.specs.Memory.{Memory, address, is_aligned}
 use Rattle.ir_machine.specs.Frames.{Begun}
 use Rattle.ir_machine.specs.Moves.{Outcome, Gives, Undefined, Over}
 use Rattle.ir_machine.specs.Reading.{Here, Picked, displaced, pick}
@@ -36,10 +41,13 @@ use Rattle.ir_machine.specs.Calls.{is_misaligned, becomes_poison, is_dereference
 use Rattle.ir_machine.specs.Meanings.{IsNonnull}
 use Rattle.ir_machine.specs.Valid.{Scope, AreBlocks}
 use Rattle.ir_machine.proofs.Basics.{OnOutcome, on_with, on_needs, on_if, given, outcome_mapped}
-use Rattle.ir_machine.proofs.Instructions.{IsRead, IsNoPtr, on_reading}
+use Rattle.ir_machine.proofs.Instructions.{IsRead, on_reading}
 use Rattle.law_premises.specs.Premises.{JustifiesItself}
 use Rattle.laws_pointer.proofs.Good.{Says, IsGood, word_of, class_fact, fewer_classes, no_ptr_classes, unknown_classes, HasHomes, IsLedFrom, led_poison}
-use Rattle.laws_pointer.proofs.Good.{displaced_led, moved_good}
+use Rattle.law_premises.specs.Indices.{AreIndices, HasIndices}
+use Rattle.laws_pointer.proofs.Placed.{IsPlaced, from_residue, to_residue}
+use Rattle.laws_pointer.proofs.Strides.{Keeps, walks_keep}
+use Rattle.laws_pointer.proofs.Good.{displaced_led, displaced_placed, KeepsPlace, moved_good}
 use Rattle.laws_pointer.proofs.Good.{AreGood, read_good}
 
 -- ---- what written attributes make of a value
@@ -117,10 +125,45 @@ not_null datum.Poison e = tt
 not_null (datum.Int bits) e = tt
 not_null datum.Pair e = tt
 
--- what attributes make of a value: the value, or poison with its origins; not null where they say so
+-- what is not misaligned by an `align` is a multiple of each of its divisors
+aligned_by : (mem : Memory) (n : ℕ) (a : ParamAttrs) (d : Datum) → gives_align n a ≡ true → is_misaligned mem a.align d ≡ false → IsPlaced mem n d
+aligned_by mem n a (datum.Ptr b o) gives is =
+    let parts = and_parts (not (a.align == 0)) (a.align % n == 0) gives in
+    let whole : is_aligned mem a.align b o ≡ true = is_so (not (a.align == 0)) (is_aligned mem a.align b o) parts.0 is in
+    mod-eq-zero_of_dvd n {n = address mem b o} (dvd_trans n (dvd_of_mod-eq-zero n {n = a.align} (eqb-true (a.align % n) 0 parts.1))
+    (dvd_of_mod-eq-zero a.align {n = address mem b o} (eqb-true (address mem b o % a.align) 0 whole)))
+  where
+    is_so : (written so : Bool) → written ≡ true → (written && not so) ≡ false → so ≡ true
+    is_so true true w e = refl
+    is_so true false w e = absurd (true≢false e)
+    is_so false so w e = absurd (true≢false (sym w))
+aligned_by mem n a datum.Undef gives is =
+    absurd (true≢false (sym (and_parts (not (a.align == 0)) (a.align % n == 0) gives).0 ∙ is))
+aligned_by mem n a datum.Null gives is = tt
+aligned_by mem n a datum.Poison gives is = tt
+aligned_by mem n a (datum.Int bits) gives is = tt
+aligned_by mem n a datum.Pair gives is = tt
+
+-- neither is true where one or the other is not
+none_of : (a b : Bool) → (a || b) ≡ false → (a ≡ false) × (b ≡ false)
+none_of true b e = absurd (true≢false e)
+none_of false b e = (refl, e)
+
+aligned_any : (mem : Memory) (n : ℕ) (attrs : List ParamAttrs) (d : Datum) → list_any (gives_align n) attrs ≡ true →
+    list_any (λ (a : ParamAttrs). is_misaligned mem a.align d) attrs ≡ false → IsPlaced mem n d
+aligned_any mem n [] d gives is = absurd (true≢false (sym gives))
+aligned_any mem n (a ∷ attrs) d gives is =
+    let two = none_of (is_misaligned mem a.align d) (list_any (λ (a : ParamAttrs). is_misaligned mem a.align d) attrs) is in
+    elim (or_cases (gives_align n a) (list_any (gives_align n) attrs) gives) [
+      | inl here ↦ aligned_by mem n a d here two.0
+      | inr later ↦ aligned_any mem n attrs d later two.1
+    ]
+
+-- what attributes make of a value: the value, or poison with its origins; not null and aligned where they say so
 pub record IsActed (mem : Memory) (attrs : List ParamAttrs) (x y : Value) : Type 0 where
   pub same : (y.datum ≡ x.datum) ⊎ ((y.datum ≡ datum.Poison) × (becomes_poison mem attrs x.datum ≡ true))
   pub nonnull : list_any gives_nonnull attrs ≡ true → IsNonnull y.datum
+  pub aligned : (n : ℕ) → list_any (gives_align n) attrs ≡ true → IsPlaced mem n y.datum
 
 acted_given : (mem : Memory) (attrs : List ParamAttrs) (x : Value) → OnOutcome (IsActed mem attrs x) (acted_on mem attrs x)
 acted_given mem attrs x =
@@ -132,8 +175,16 @@ acted_given mem attrs x =
         | inl named ↦ named_nonnull (becomes_poison mem attrs x.datum) refl named
         | inr some ↦ met_nonnull mem attrs (poisoned mem attrs x).datum some met
       ];
+      aligned = λ n gives. placed n (becomes_poison mem attrs x.datum) refl gives;
     })
   where
+    placed : (n : ℕ) (b : Bool) → becomes_poison mem attrs x.datum ≡ b → list_any (gives_align n) attrs ≡ true →
+        IsPlaced mem n (if b then carried x datum.Poison else x).datum
+    placed n true e gives = tt
+    placed n false e gives =
+        aligned_any mem n attrs x.datum gives (none_of (list_any (λ (a : ParamAttrs). a.nonnull) attrs && (is_null x.datum || is_undef x.datum))
+        (list_any (λ (a : ParamAttrs). is_misaligned mem a.align x.datum) attrs) e).1
+
     by : (b : Bool) → becomes_poison mem attrs x.datum ≡ b →
         ((if b then carried x datum.Poison else x).datum ≡ x.datum) ⊎
         (((if b then carried x datum.Poison else x).datum ≡ datum.Poison) × (becomes_poison mem attrs x.datum ≡ true))
@@ -207,6 +258,41 @@ acted_kept mem attrs x y none e = elim (acted mem attrs x y e).same [
     never attrs d none = subst (λ n. ((n && (is_null d || is_undef d)) || list_any (λ (a : ParamAttrs). is_misaligned mem a.align d) attrs) ≡ false)
         (sym (no_name attrs none)) (no_align attrs d none)
 
+-- ---- indices
+
+-- a getelementptr has the indices that are asked for
+abbrev pub IsIndexed : Module → Op → Type 0
+IsIndexed m (op.Gep elem base indices inbounds wrap) = HasIndices m → AreIndices m elem.0 indices
+IsIndexed m _ = Unit {0}
+
+pub indexed_at : (m : Module) (s : Spot) (instr : Instr) → instr_at m s ≡ Some instr → IsIndexed m instr.op
+indexed_at m s instr at = by instr.op refl
+  where
+    by : (o : Op) → instr.op ≡ o → IsIndexed m o
+    by (op.Gep elem base indices inbounds wrap) is = λ has. has s instr elem base indices inbounds wrap at is
+    by (op.Bin o flagged a b) is = tt
+    by (op.Icmp pred flagged a b) is = tt
+    by (op.Cast o flagged a) is = tt
+    by (op.Freeze a) is = tt
+    by (op.LandingPad catch_all clauses) is = tt
+    by (op.Select c a b) is = tt
+    by (op.Phi arms) is = tt
+    by (op.Alloca ty n align) is = tt
+    by (op.Load ptr align volatile) is = tt
+    by (op.Store val ptr align volatile) is = tt
+    by (op.Call call) is = tt
+    by (op.Invoke call normal unwind) is = tt
+    by (op.Resume val) is = tt
+    by (op.Ret val) is = tt
+    by (op.Jump to) is = tt
+    by (op.Branch c so otherwise) is = tt
+    by (op.Switch on other cases) is = tt
+    by op.Unreachable is = tt
+
+-- the walk before the first index
+abbrev starts_at : ℕ → List ℕ → Walk
+starts_at ty picks = record { bytes = pos 0; ty = ty; forward = true; poison = false; picks = picks }
+
 -- ---- rules
 
 module _ (m : Module) (held : Fact → Bool) (is : JustifiesItself m held) where
@@ -242,17 +328,18 @@ module _ (m : Module) (held : Fact → Bool) (is : JustifiesItself m held) where
   -- a value of which no fact can be held is as its word says, whatever it is
   pub free_good : (mem : Memory) (call : Begun) (f v : ℕ) (s : Spot) (o : Op) (d : Datum) → HasRules f v s o →
       ((bit : ℕ) → RuleOf f v s o bit NonNull → ⊥) → ((bit i : ℕ) → RuleOf f v s o bit (SameAs i) → ⊥) →
-      ((bit : ℕ) → RuleOf f v s o bit (NotTo Unknown) → ⊥) → IsGood mem call (word_of held v) d
-  free_good mem call f v s o d rules no_null no_same no_class = record {
+      ((bit n : ℕ) → RuleOf f v s o bit (AlignedTo n) → ⊥) → ((bit : ℕ) → RuleOf f v s o bit (NotTo Unknown) → ⊥) →
+      IsGood m mem call (word_of held v) d
+  free_good mem call f v s o d rules no_null no_same no_align no_class = record {
     bits = λ bit kind has e. says bit kind (rules bit kind has e);
     classes = unknown_classes mem call (word_of held v) d
         (λ has. no_class (class_bit Unknown) (rules (class_bit Unknown) (NotTo Unknown) has (class_fact Unknown)));
   }
     where
-      says : (bit : ℕ) (kind : ValueFact) → RuleOf f v s o bit kind → Says call (Some kind) d
+      says : (bit : ℕ) (kind : ValueFact) → RuleOf f v s o bit kind → Says m mem call (Some kind) d
       says bit (SameAs i) rule = absurd (no_same bit i rule)
       says bit NonNull rule = absurd (no_null bit rule)
-      says bit (AlignedTo bytes) rule = tt
+      says bit (AlignedTo bytes) rule = absurd (no_align bit bytes rule)
       says bit (HasBytes count) rule = tt
       says bit (NotTo class) rule = tt
       says bit (UsedSo kind) rule = tt
@@ -261,16 +348,17 @@ module _ (m : Module) (held : Fact → Bool) (is : JustifiesItself m held) where
   pub taken_good : (mem : Memory) (call : Begun) (f v : ℕ) (s : Spot) (o : Op) (d : Datum) (more : ℕ → Bool) → HasRules f v s o →
       ((bit : ℕ) → RuleOf f v s o bit NonNull → more bit ≡ true) →
       ((bit i : ℕ) → value_fact bit ≡ Some (SameAs i) → RuleOf f v s o bit (SameAs i) → more bit ≡ true) →
-      ((bit : ℕ) (c : BlockClass) → RuleOf f v s o bit (NotTo c) → more bit ≡ true) → IsGood mem call more d → IsGood mem call (word_of held v) d
-  taken_good mem call f v s o d more rules null same class good = record {
+      ((bit n : ℕ) → RuleOf f v s o bit (AlignedTo n) → more bit ≡ true) →
+      ((bit : ℕ) (c : BlockClass) → RuleOf f v s o bit (NotTo c) → more bit ≡ true) → IsGood m mem call more d → IsGood m mem call (word_of held v) d
+  taken_good mem call f v s o d more rules null same align class good = record {
     bits = λ bit kind has e. says bit kind e (rules bit kind has e);
     classes = fewer_classes mem call (word_of held v) more d (λ c has. class (class_bit c) c (rules (class_bit c) (NotTo c) has (class_fact c))) good.classes;
   }
     where
-      says : (bit : ℕ) (kind : ValueFact) → value_fact bit ≡ Some kind → RuleOf f v s o bit kind → Says call (Some kind) d
+      says : (bit : ℕ) (kind : ValueFact) → value_fact bit ≡ Some kind → RuleOf f v s o bit kind → Says m mem call (Some kind) d
       says bit (SameAs i) e rule = good.bits bit (SameAs i) (same bit i e rule) e
       says bit NonNull e rule = good.bits bit NonNull (null bit rule) e
-      says bit (AlignedTo bytes) e rule = tt
+      says bit (AlignedTo bytes) e rule = good.bits bit (AlignedTo bytes) (align bit bytes rule) e
       says bit (HasBytes count) e rule = tt
       says bit (NotTo class) e rule = tt
       says bit (UsedSo kind) e rule = tt
@@ -278,11 +366,11 @@ module _ (m : Module) (held : Fact → Bool) (is : JustifiesItself m held) where
   -- ---- what instructions compute
 
   module _ (here : Here) (sc : Scope) (blocks : AreBlocks here.state.memory sc) (homes : HasHomes m here.state.memory)
-      (good : AreGood held here.state.memory here.frame.call here.frame.values) (v : ℕ) where
+      (good : AreGood m held here.state.memory here.frame.call here.frame.values) (v : ℕ) where
     abbrev Good : Value → Type 0
-    Good x = IsGood here.state.memory here.frame.call (word_of held v) x.datum
+    Good x = IsGood m here.state.memory here.frame.call (word_of held v) x.datum
 
-    pub operand_good : (w : Written) (x : Value) → IsRead m here w x → IsGood here.state.memory here.frame.call (written_has m held w) x.datum
+    pub operand_good : (w : Written) (x : Value) → IsRead m here w x → IsGood m here.state.memory here.frame.call (written_has m held w) x.datum
     operand_good w x (picks, rest, gives) = read_good m held here.state.memory sc blocks homes here.frame.call here.frame.values good w x picks rest gives
 
     anything : (Q : Value → Type 0) (o : Outcome Value) → ((x : Value) → Q x) → OnOutcome Q o
@@ -292,28 +380,30 @@ module _ (m : Module) (held : Fact → Bool) (is : JustifiesItself m held) where
 
     module _ (f : ℕ) (s : Spot) where
       select_good : (c a b : Written) (d : Datum) (x y : Value) (picks : List ℕ) → HasRules f v s (op.Select c a b) →
-          IsGood here.state.memory here.frame.call (written_has m held a) x.datum → IsGood here.state.memory here.frame.call (written_has m held b) y.datum →
+          IsGood m here.state.memory here.frame.call (written_has m held a) x.datum → IsGood m here.state.memory here.frame.call (written_has m held
+          b) y.datum →
           OnOutcome Good (selected d x y picks)
       select_good c a b d x y picks rules at_x at_y = by d
         where
           first : Good x
           first = taken_good here.state.memory here.frame.call f v s (op.Select c a b) x.datum (written_has m held a) rules (λ bit r. r.0)
-              (λ bit i e r. absurd r)
+              (λ bit i e r. absurd r) (λ bit n r. r.0)
               (λ bit c r. r.0) at_x
 
           second : Good y
           second = taken_good here.state.memory here.frame.call f v s (op.Select c a b) y.datum (written_has m held b) rules (λ bit r. r.1)
-              (λ bit i e r. absurd r)
+              (λ bit i e r. absurd r) (λ bit n r. r.1)
               (λ bit c r. r.1) at_y
 
           either : (z : Bool) (p q : Value) → Good p → Good q → Good (if z then p else q)
           either true p q at_p at_q = at_p
           either false p q at_p at_q = at_q
 
-          poison_says : (bit : ℕ) (kind : ValueFact) → RuleOf f v s (op.Select c a b) bit kind → Says here.frame.call (Some kind) datum.Poison
+          poison_says : (bit : ℕ) (kind : ValueFact) → RuleOf f v s (op.Select c a b) bit kind →
+              Says m here.state.memory here.frame.call (Some kind) datum.Poison
           poison_says bit (SameAs i) rule = absurd rule
           poison_says bit NonNull rule = tt
-          poison_says bit (AlignedTo bytes) rule = tt
+          poison_says bit (AlignedTo bytes) rule = λ indices. tt
           poison_says bit (HasBytes count) rule = tt
           poison_says bit (NotTo class) rule = tt
           poison_says bit (UsedSo kind) rule = tt
@@ -330,13 +420,14 @@ module _ (m : Module) (held : Fact → Bool) (is : JustifiesItself m held) where
           by datum.Pair = tt
 
       gep_good : (elem : TypeId) (base : Written) (indices : List Written) (inbounds wrap : Bool) (x y : Value) →
-          HasRules f v s (op.Gep elem base indices inbounds wrap) → IsGood here.state.memory here.frame.call (written_has m held base) x.datum →
-          IsLedFrom x.datum y.datum → Good y
-      gep_good elem base indices inbounds wrap x y rules at_x led =
+          HasRules f v s (op.Gep elem base indices inbounds wrap) → IsGood m here.state.memory here.frame.call (written_has m held base) x.datum →
+          IsLedFrom x.datum y.datum → KeepsPlace m here.state.memory (displacement inbounds wrap (steps m elem.0 indices)) x.datum y.datum → Good y
+      gep_good elem base indices inbounds wrap x y rules at_x led keeps =
           taken_good here.state.memory here.frame.call f v s (op.Gep elem base indices inbounds wrap) y.datum
-          (moved_has (displacement inbounds wrap (steps m elem.0 indices)) (written_has m held base)) rules (λ bit r. r) (λ bit i e r. absurd r) (λ bit c r. r)
-          (moved_good here.state.memory here.frame.call (displacement inbounds wrap (steps m elem.0 indices))
-          (written_has m held base) x.datum y.datum led at_x)
+          (moved_has (displacement inbounds wrap (steps m elem.0 indices)) (written_has m held base)) rules (λ bit r. r) (λ bit i e r. absurd r)
+          (λ bit n r. r) (λ bit c r. r)
+          (moved_good m here.state.memory here.frame.call (displacement inbounds wrap (steps m elem.0 indices))
+          (written_has m held base) x.datum y.datum led keeps at_x)
 
       led_gep : (inbounds wrap : Bool) (x : Value) (walk : Walk) →
           OnOutcome (λ (y : Value). IsLedFrom x.datum y.datum) (gep_result here.state.memory inbounds wrap x walk)
@@ -346,45 +437,98 @@ module _ (m : Module) (held : Fact → Bool) (is : JustifiesItself m held) where
           (λ r gives. given (λ (r : Picked). IsLedFrom x.datum r.value.datum) (displaced here.state.memory (way_of inbounds wrap walk) x walk.picks) r
           (displaced_led here.state.memory (way_of inbounds wrap walk) x walk.picks) gives))
 
+      -- what the indices leave of an alignment
+      placed_gep : (inbounds wrap : Bool) (elem : TypeId) (indices : List Written) (x : Value) (walk : Walk) (picks : List ℕ) (n : ℕ) → n ∣ 2 ^ 64 →
+          keeps_align (displacement inbounds wrap (steps m elem.0 indices)) n ≡ true → AreIndices m elem.0 indices →
+          walks m here indices (starts_at elem.0 picks) ≡ Gives walk → IsPlaced here.state.memory n x.datum →
+          OnOutcome (λ (y : Value). IsPlaced here.state.memory n y.datum) (gep_result here.state.memory inbounds wrap x walk)
+      placed_gep inbounds wrap elem indices x walk picks n whole keeps are gives placed =
+          let d = displacement inbounds wrap (steps m elem.0 indices) in
+          let parts = and_parts (d.fixed % n == 0) (list_all (λ factor. factor % n == 0) d.factors) keeps in
+          let fixed : n ∣ residue 64 (fixed_part (steps m elem.0 indices)) = dvd_of_mod-eq-zero n {n = d.fixed} (eqb-true (d.fixed % n) 0 parts.0) in
+          let sum : n ∣ unsigned_abs (pos 0 +ℤ fixed_part (steps m elem.0 indices)) =
+          subst (λ z. n ∣ unsigned_abs z) (sym (+ℤ_idl (fixed_part (steps m elem.0 indices)))) (from_residue n whole (fixed_part (steps m elem.0
+          indices)) fixed) in
+          let far : n ∣ unsigned_abs walk.bytes =
+          given (Keeps m here n (pos 0) (steps m elem.0 indices)) (walks m here indices (starts_at elem.0 picks)) walk
+          (walks_keep m here n indices (starts_at elem.0 picks) elem.0 refl are) gives parts.1 sum in
+          on_if (λ (y : Value). IsPlaced here.state.memory n y.datum) walk.poison (Gives (carried x datum.Poison)) _ (λ _. tt)
+          (λ _. on_with (λ (y : Value). IsPlaced here.state.memory n y.datum) (displaced here.state.memory (way_of inbounds wrap walk) x walk.picks) _
+          (λ r at. given (λ (r : Picked). IsPlaced here.state.memory n r.value.datum) (displaced here.state.memory (way_of inbounds wrap walk) x walk.picks) r
+          (displaced_placed here.state.memory (way_of inbounds wrap walk) x walk.picks n whole (to_residue n whole walk.bytes far) placed) at))
+
+      -- led, and in the same place
+      both_led : (d : Displacement) (x : Value) (o : Outcome Value) → OnOutcome (λ (y : Value). IsLedFrom x.datum y.datum) o →
+          ((n : ℕ) → n ∣ 2 ^ 64 → keeps_align d n ≡ true → HasIndices m → IsPlaced here.state.memory n x.datum →
+          OnOutcome (λ (y : Value). IsPlaced here.state.memory n y.datum) o) →
+          OnOutcome (λ (y : Value). IsLedFrom x.datum y.datum × KeepsPlace m here.state.memory d x.datum y.datum) o
+      both_led d x (Gives y) led placed = (led, placed)
+      both_led d x Undefined led placed = tt
+      both_led d x Over led placed = tt
+
       abbrev FreeRules : Op → Type 0
-      FreeRules o = ((bit : ℕ) → RuleOf f v s o bit NonNull → ⊥) ×
-          (((bit i : ℕ) → RuleOf f v s o bit (SameAs i) → ⊥) × ((bit : ℕ) → RuleOf f v s o bit (NotTo Unknown) → ⊥))
+      FreeRules o = ((bit : ℕ) → RuleOf f v s o bit NonNull → ⊥) × (((bit i : ℕ) → RuleOf f v s o bit (SameAs i) → ⊥) ×
+          (((bit n : ℕ) → RuleOf f v s o bit (AlignedTo n) → ⊥) × ((bit : ℕ) → RuleOf f v s o bit (NotTo Unknown) → ⊥)))
 
       free : (o : Op) → HasRules f v s o → FreeRules o → (x : Value) → Good x
-      free o rules none x = free_good here.state.memory here.frame.call f v s o x.datum rules none.0 none.1.0 none.1.1
+      free o rules none x = free_good here.state.memory here.frame.call f v s o x.datum rules none.0 none.1.0 none.1.1.0 none.1.1.1
 
-      computed_given : (picks : List ℕ) (o : Op) → HasRules f v s o → OnOutcome Good (computed m here picks o)
-      computed_given picks (op.Bin o flagged a b) rules =
-          anything Good (computed m here picks (op.Bin o flagged a b)) (free (op.Bin o flagged a b) rules ((λ bit r. r), ((λ bit i r. r), (λ bit r. r))))
-      computed_given picks (op.Icmp pred flagged a b) rules =
+      computed_given : (picks : List ℕ) (o : Op) → IsIndexed m o → HasRules f v s o → OnOutcome Good (computed m here picks o)
+      computed_given picks (op.Bin o flagged a b) indexed rules =
+          anything Good (computed m here picks (op.Bin o flagged a b)) (free (op.Bin o flagged a b) rules (
+            (λ bit r. r),
+            (
+              (λ bit i r. r),
+              (
+                (λ bit n
+                    r. r),
+                (λ bit r. r),
+              ),
+            ),
+          ))
+      computed_given picks (op.Icmp pred flagged a b) indexed rules =
           anything Good (computed m here picks (op.Icmp pred flagged a b))
-          (free (op.Icmp pred flagged a b) rules ((λ bit r. r), ((λ bit i r. r), (λ bit r. r))))
-      computed_given picks (op.Cast o flagged a) rules =
-          anything Good (computed m here picks (op.Cast o flagged a)) (free (op.Cast o flagged a) rules ((λ bit r. r), ((λ bit i r. r), (λ bit r. r))))
-      computed_given picks (op.Freeze a) rules =
-          anything Good (computed m here picks (op.Freeze a)) (free (op.Freeze a) rules ((λ bit r. r), ((λ bit i r. r), (λ bit r. r))))
-      computed_given picks (op.LandingPad catch_all clauses) rules =
-          free (op.LandingPad catch_all clauses) rules ((λ bit r. r), ((λ bit i r. r), (λ bit r. r))) (plain datum.Pair)
-      computed_given picks (op.Select c a b) rules =
+          (free (op.Icmp pred flagged a b) rules ((λ bit r. r), ((λ bit i r. r), ((λ bit n r. r), (λ bit r. r)))))
+      computed_given picks (op.Cast o flagged a) indexed rules =
+          anything Good (computed m here picks (op.Cast o flagged a)) (free (op.Cast o flagged a) rules (
+            (λ bit r. r),
+            (
+              (λ bit i r. r),
+              (
+                (λ bit n r.
+                    r),
+                (λ bit r. r),
+              ),
+            ),
+          ))
+      computed_given picks (op.Freeze a) indexed rules =
+          anything Good (computed m here picks (op.Freeze a)) (free (op.Freeze a) rules ((λ bit r. r), ((λ bit i r. r), ((λ bit n r. r), (λ bit r. r)))))
+      computed_given picks (op.LandingPad catch_all clauses) indexed rules =
+          free (op.LandingPad catch_all clauses) rules ((λ bit r. r), ((λ bit i r. r), ((λ bit n r. r), (λ bit r. r)))) (plain datum.Pair)
+      computed_given picks (op.Select c a b) indexed rules =
           on_reading Good m here c picks _ (λ z rest _. on_reading Good m here a rest _ (λ x rest at_a. on_reading Good m here b rest _ (λ y rest at_b.
           select_good c a b z.datum x y rest rules (operand_good a x at_a) (operand_good b y at_b))))
-      computed_given picks (op.Gep elem base indices inbounds wrap) rules =
-          on_reading Good m here base picks _ (λ x rest at. on_with Good (walks m here indices _) _ (λ walk _.
-          outcome_mapped (λ (y : Value). IsLedFrom x.datum y.datum) Good (gep_result here.state.memory inbounds wrap x walk)
-          (λ y led. gep_good elem base indices inbounds wrap x y rules (operand_good base x at) led) (led_gep inbounds wrap x walk)))
-      computed_given picks (op.Phi arms) rules = tt
-      computed_given picks (op.Alloca ty n align) rules = tt
-      computed_given picks (op.Load ptr align volatile) rules = tt
-      computed_given picks (op.Store val ptr align volatile) rules = tt
-      computed_given picks (op.Call call) rules = tt
-      computed_given picks (op.Invoke call normal unwind) rules = tt
-      computed_given picks (op.Resume val) rules = tt
-      computed_given picks (op.Ret val) rules = tt
-      computed_given picks (op.Jump to) rules = tt
-      computed_given picks (op.Branch c so otherwise) rules = tt
-      computed_given picks (op.Switch on other cases) rules = tt
-      computed_given picks op.Unreachable rules = tt
+      computed_given picks (op.Gep elem base indices inbounds wrap) indexed rules =
+          on_reading Good m here base picks _ (λ x rest at. on_with Good (walks m here indices (starts_at elem.0 rest)) _ (λ walk gives.
+          let d = displacement inbounds wrap (steps m elem.0 indices) in
+          outcome_mapped (λ (y : Value). IsLedFrom x.datum y.datum × KeepsPlace m here.state.memory d x.datum y.datum) Good
+          (gep_result here.state.memory inbounds wrap x walk)
+          (λ y led. gep_good elem base indices inbounds wrap x y rules (operand_good base x at) led.0 led.1)
+          (both_led d x (gep_result here.state.memory inbounds wrap x walk) (led_gep inbounds wrap x walk)
+          (λ n whole keeps has placed. placed_gep inbounds wrap elem indices x walk rest n whole keeps (indexed has) gives placed))))
+      computed_given picks (op.Phi arms) indexed rules = tt
+      computed_given picks (op.Alloca ty n align) indexed rules = tt
+      computed_given picks (op.Load ptr align volatile) indexed rules = tt
+      computed_given picks (op.Store val ptr align volatile) indexed rules = tt
+      computed_given picks (op.Call call) indexed rules = tt
+      computed_given picks (op.Invoke call normal unwind) indexed rules = tt
+      computed_given picks (op.Resume val) indexed rules = tt
+      computed_given picks (op.Ret val) indexed rules = tt
+      computed_given picks (op.Jump to) indexed rules = tt
+      computed_given picks (op.Branch c so otherwise) indexed rules = tt
+      computed_given picks (op.Switch on other cases) indexed rules = tt
+      computed_given picks op.Unreachable indexed rules = tt
 
       -- what an instruction computes is as the word of its result says
-      pub computed_good : (picks : List ℕ) (o : Op) (x : Value) → HasRules f v s o → computed m here picks o ≡ Gives x → Good x
-      computed_good picks o x rules gives = given Good (computed m here picks o) x (computed_given picks o rules) gives
+      pub computed_good : (picks : List ℕ) (o : Op) (x : Value) → IsIndexed m o → HasRules f v s o → computed m here picks o ≡ Gives x → Good x
+      computed_good picks o x indexed rules gives = given Good (computed m here picks o) x (computed_given picks o indexed rules) gives

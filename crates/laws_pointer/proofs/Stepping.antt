@@ -1,15 +1,12 @@
 -- The induction: each step brings values that are as their words say.
-use Rattle.std.proofs.Common.{◌≡◌, ◌≢◌, ℕ, zero, suc, ◌+◌, ◌++◌, ◌==◌, ◌<◌, Bool, true, false, if◌then◌else◌, List, [], ◌∷◌, slice_get, map, Option, None}
-use Rattle.std.proofs.Common.{Some, is_some}
-use Rattle.std.proofs.Common.{refl, sym, ap, subst, ◌∙◌, ◌⊎◌, inl, inr, true≢false, arith}
+use Rattle.std.proofs.Common.{◌≡◌, ℕ, ◌==◌, ◌<◌, Bool, true, false, if◌then◌else◌, List, [], ◌∷◌, slice_get, map, Option, None}
+use Rattle.std.proofs.Common.{Some}
+use Rattle.std.proofs.Common.{refl, sym, subst, ◌∙◌, ◌⊎◌, inl, inr, true≢false, arith}
 use Rattle.std.specs.List.{AllByRecursion}
-use Rattle.std.specs.Option.{option_map}
 use Rattle.std.proofs.lemmas.Option.{same_Some}
 use Rattle.std.proofs.lemmas.Bool.Decides.{eqb_tells}
-use Rattle.shelf.proofs.Every.{every_always}
 use Rattle.attr_ids.specs.declared.ids.ValueId.{ValueId}
 use Rattle.ir_module.specs.declared.attrs.CallAttrs.{CallAttrs}
-use Rattle.ir_module.specs.declared.op.Call.{Call}
 use Rattle.ir_module.specs.declared.op.Op.{Op}
 use Rattle.ir_module.specs.declared.op.Op.TheVariants as op
 use Rattle.ir_module.specs.declared.op.Instr.{Instr}
@@ -17,63 +14,47 @@ use Rattle.ir_module.specs.declared.op.Symbol.{Symbol}
 use Rattle.ir_module.specs.declared.op.Written.{Written}
 use Rattle.ir_module.specs.declared.edge.Edge.{Edge}
 use Rattle.ir_module.specs.declared.edge.Way.TheVariants as way
-use Rattle.ir_module.specs.declared.module.Linkage.{Linkage}
-use Rattle.ir_module.specs.declared.module.Linkage.TheVariants as linkage
 use Rattle.ir_module.specs.declared.module.Param.{Param}
 use Rattle.ir_module.specs.declared.module.Spot.{Spot}
 use Rattle.ir_module.specs.declared.module.Module.{Module}
 use Rattle.ir_module.specs.Places.{instr_at, IsIn}
-use Rattle.ir_module.specs.Edges.{edge, edges, IsEdgeAt}
-use Rattle.ir_module.specs.Calls.{call_of, is_call, inner_callee, promising, is_open}
+use Rattle.ir_module.specs.Edges.{edge, edges}
+use Rattle.ir_module.specs.Calls.{promising}
 use Rattle.ir_module.specs.WellFormed.{IsWellFormed}
 use Rattle.facts.specs.Bodies.{param_of}
-use Rattle.facts.specs.Kinds.{ValueFact, SameAs, NonNull, AlignedTo, HasBytes, NotTo, UsedSo, BlockClass, OwnAlloca, Unknown, class_bit, value_fact}
-use Rattle.facts.specs.Facts.{Fact, of_return, dead_at}
-use Rattle.facts.specs.Known.{written_has}
+use Rattle.facts.specs.Facts.{Fact}
 use Rattle.facts.specs.Promises.{may_poison}
-use Rattle.facts.specs.Return.{ReturnHas, RetHas}
-use Rattle.facts.specs.Entry.{EachPassed}
 use Rattle.ir_machine.specs.declared.choice.Datum.{Datum}
 use Rattle.ir_machine.specs.declared.choice.Datum.TheVariants as datum
 use Rattle.ir_machine.specs.declared.choice.Value.{Value}
 use Rattle.ir_machine.specs.declared.choice.Byte.TheVariants as byte
-use Rattle.ir_machine.specs.declared.choice.Choice.{Choice}
-use Rattle.ir_machine.specs.Values.{plain}
-use Rattle.ir_machine.specs.Memory.{Memory, Shape, Live, Closed, Dead, OfAlloca, is_dead, is_alloca_of, put, without_allocas}
-use Rattle.ir_machine.specs.Frames.{Made, At, Begun, Active, active, BodyFrame, OutsideFrame, Frame, Body, Outside, call_of as call_in, State, What, Enter}
-use Rattle.ir_machine.specs.Frames.{Read, Write}
-use Rattle.ir_machine.specs.Frames.{Capture, Return, Unwind, Event, event}
-use Rattle.ir_machine.specs.Moves.{Move, Says, Grows, Turns, Fills, Keeps, Sets, Goes, Takes, Begins, Ends, moved, after, says, with_value, at_spot}
-use Rattle.ir_machine.specs.Moves.{with_hand, set_on_top}
-use Rattle.ir_machine.specs.Moves.{gone_on_top, taken_on_top, under_top, Gives, Undefined, Over, Plan}
-use Rattle.ir_machine.specs.Reading.{Here, behind}
-use Rattle.ir_machine.specs.Access.{alloca_shape, hidden, bytes_with}
-use Rattle.ir_machine.specs.Edges.{crossing}
-use Rattle.ir_machine.specs.Calls.{acted_on, came_back, takes, params_of, passed_to, body_frame, begun_by, is_end_name, marks_last, turns, is_alloca_result}
-use Rattle.ir_machine.specs.Calls.{Lands, landing_in, landing_by}
-use Rattle.ir_machine.specs.Outside.{pointers_in, reads_at, captures_in, taking}
-use Rattle.ir_machine.specs.Steps.{plan}
-use Rattle.ir_machine.specs.Runs.{linkage_of, HasHome, Done, done, IsOpening, run}
-use Rattle.ir_machine.specs.Arguments.{Homes, ArgumentsAreOperands}
+use Rattle.ir_machine.specs.Memory.{Memory, Live, Closed, Dead, OfAlloca, is_dead, is_alloca_of}
+use Rattle.ir_machine.specs.Frames.{active, BodyFrame, OutsideFrame, Frame, Body, Outside, call_of as call_in, State}
+use Rattle.ir_machine.specs.Frames.{Return, event}
+use Rattle.ir_machine.specs.Moves.{Move, Says, Grows, Turns, Fills, Keeps, Sets, Goes, Takes, Begins, Ends, moved, after}
+use Rattle.ir_machine.specs.Moves.{set_on_top}
+use Rattle.ir_machine.specs.Moves.{gone_on_top, taken_on_top, under_top, Gives}
+use Rattle.ir_machine.specs.Reading.{Here}
+use Rattle.ir_machine.specs.Calls.{acted_on, came_back, takes, marks_last, turns, is_alloca_result}
+use Rattle.ir_machine.specs.Runs.{IsShapeOf, Done}
+use Rattle.ir_machine.specs.Arguments.{ArgumentsAreOperands}
 use Rattle.ir_machine.specs.Links.{BeginsAs, CallsBody, CallsBodyIn, AreLinked, IsLinked}
-use Rattle.ir_machine.specs.Meanings.{IsBy, IsNonnull}
 use Rattle.ir_machine.specs.Honest.{IsFair}
-use Rattle.ir_machine.specs.Valid.{Scope, scope_of, IsAmongFirst, Known, IsSomeOf, HasAll, IsValid, IsLater}
-use Rattle.ir_machine.proofs.Basics.{OnOutcome, on_with, given, outcome_mapped, put_has, put_at, Along, along_says, Shown}
-use Rattle.ir_machine.proofs.Carried.{operand_has, came_back_has, used_has}
-use Rattle.ir_machine.proofs.Instructions.{IsRead, AreRead, IsReadOr, Leads, EachKind, EachAct, by_step, here_in, passing_at, passing_in}
-use Rattle.ir_machine.proofs.Moving.{IsCrossing, crossed, IsOnward, IsGoingOn, went_on, IsComing, came, IsThrough, went_through}
-use Rattle.ir_machine.proofs.Linked.{with_stack, onto}
-use Rattle.ir_machine.proofs.Valid.{known_closed, Restricts, Fits, valid_moved, later_moved}
-use Rattle.ir_machine.proofs.Running.{ValidLaw, valid_run}
-use Rattle.ir_machine.proofs.Opening.{opening_valid}
-use Rattle.law_premises.specs.Premises.{JustifiesItself, StandLive, TakesLiveEdges, IsControlled}
+use Rattle.ir_machine.specs.Valid.{scope_of, Known, IsSomeOf, HasAll, IsValid, IsLater}
+use Rattle.ir_machine.proofs.Basics.{OnOutcome, on_with, given, put_has, Along}
+use Rattle.ir_machine.proofs.Carried.{came_back_has}
+use Rattle.ir_machine.proofs.Instructions.{Leads}
+use Rattle.ir_machine.proofs.Moving.{IsComing}
+use Rattle.ir_machine.proofs.Linked.{with_stack}
+use Rattle.ir_machine.proofs.Valid.{known_closed, Restricts, valid_moved, later_moved}
+use Rattle.ir_machine.proofs.Running.{ValidLaw}
+use Rattle.law_premises.specs.Premises.{JustifiesItself, TakesLiveEdges, IsControlled}
 use Rattle.law_premises.specs.Types.{HasTypedAddresses, PassesAddresses}
-use Rattle.laws_pointer.proofs.Good.{IsGood, word_of, class_fact, in_class, good_later, HasHomes, AreGood}
-use Rattle.laws_pointer.proofs.Rules.{RuleOf, HasRules, result_rules, free_good, operand_good, computed_good}
-use Rattle.laws_pointer.proofs.Frames.{MayPoison, KeepsArgs, HasPassed, BodyIsGood, FrameIsGood, frames_later, begins_good, passed_nonnull, all_passed}
+use Rattle.laws_pointer.proofs.Good.{IsGood, word_of, HasHomes}
+use Rattle.laws_pointer.proofs.Rules.{result_rules}
+use Rattle.laws_pointer.proofs.Frames.{MayPoison, FrameIsGood, frames_later}
 use Rattle.laws_pointer.proofs.Results.{return_word, ComesBack, inner_good, outer_good}
-use Rattle.laws_pointer.proofs.Crossing.{SetsGood, C, MayLand, TakesOff, later_still, takes_edge, going_good, through_good}
+use Rattle.laws_pointer.proofs.Crossing.{SetsGood, C, MayLand, later_still, going_good}
 
 -- what is given of each step
 pub record Given (m : Module) (held : Fact → Bool) (d : Done) : Type 0 where
@@ -116,8 +97,8 @@ module _ (m : Module) (formed : IsWellFormed m) (held : Fact → Bool) (is : Jus
   set_good mem v x (Body f ∷ below) has all = (
     record {
       kind = record {
-        values = λ n y at. put_has (λ n (found : Option Value). found ≡ Some y → IsGood mem f.call (word_of held n) y.datum) v (Some x) f.values n
-            (λ same. subst (λ (z : Value). IsGood mem f.call (word_of held v) z.datum) (same_Some x y same) has) (λ same. all.0.kind.values n y same) at;
+        values = λ n y at. put_has (λ n (found : Option Value). found ≡ Some y → IsGood m mem f.call (word_of held n) y.datum) v (Some x) f.values n
+            (λ same. subst (λ (z : Value). IsGood m mem f.call (word_of held v) z.datum) (same_Some x y same) has) (λ same. all.0.kind.values n y same) at;
         entry = all.0.kind.entry;
         there = all.0.kind.there;
       };
@@ -148,11 +129,21 @@ module _ (m : Module) (formed : IsWellFormed m) (held : Fact → Bool) (is : Jus
   under_good mem [] all = tt
   under_good mem (top ∷ below) all = all.1
 
-  homes_later : (mem later : Memory) → IsLater mem later → HasHomes m mem → HasHomes m later
-  homes_later mem later is_later homes s link e none = homes s link e (sym (is_later.home s) ∙ none)
+  homes_later : (mem later : Memory) → IsLater mem later → ((s : Symbol) (b : ℕ) → mem.home s ≡ Some b → b < mem.count) → HasHomes m mem → HasHomes m later
+  homes_later mem later is_later low homes = record {
+    weak = λ s link e none. homes.weak s link e (sym (is_later.home s) ∙ none);
+    shape = λ s b home.
+        let old = sym (is_later.home s) ∙ home in
+        subst (λ x. IsShapeOf m x s) (sym (is_later.shape b (low s b old))) (homes.shape s b old);
+  }
 
   pub inv_moved : (t : State) (x : Move) → IsValid t → Restricts t x → Inv t → Asked t x → Inv (moved t x)
-  inv_moved t x valid fits inv c = record { frames = by x fits c; homes = homes_later t.memory (moved t x).memory (later_moved t x fits) inv.homes }
+  inv_moved t x valid fits inv c =
+      record {
+        frames =
+            by x fits c;
+        homes = homes_later t.memory (moved t x).memory (later_moved t x fits) (λ s b home. (valid.blocks.homes s b home).0) inv.homes;
+      }
     where
       all : (x : Move) → Restricts t x → AllByRecursion (Good (moved t x).memory) t.stack
       all x fits = frames_later m held is t.memory (moved t x).memory (later_moved t x fits) (scope_of t) refl t.stack valid.known.frames inv.frames
@@ -265,7 +256,7 @@ module _ (m : Module) (formed : IsWellFormed m) (held : Fact → Bool) (is : Jus
 
   -- what a frame returns: as the word of its return says, or by an honest call of the outside
   abbrev pub IsReturned : State → Frame → List Frame → Value → Type 0
-  IsReturned t (Body frame) below w = IsGood t.memory frame.call (return_word m held is frame.func) w.datum
+  IsReturned t (Body frame) below w = IsGood m t.memory frame.call (return_word m held is frame.func) w.datum
   IsReturned t (Outside frame) below w = IsFair m (event (Outside frame ∷ below) (Return (Some w)))
 
   -- an alloca of the frame that is taken away is dead
@@ -314,8 +305,8 @@ module _ (m : Module) (formed : IsWellFormed m) (held : Fact → Bool) (is : Jus
       (inv : Inv (with_stack t (Body frame ∷ Body under ∷ rest))) (h : AreLinked m (Body frame) (Body under ∷ rest))
       (passed : ArgumentsAreOperands m t.memory.home (Body frame ∷ Body under ∷ rest)) (typed : HasTypedAddresses m (Body frame)) where
     back_inner : (instr : Instr) (r : ValueId) (w : Value) → instr_at m under.spot ≡ Some instr → instr.result ≡ Some r →
-        Known (scope_of t) w → IsGood t.memory frame.call (return_word m held is frame.func) w.datum →
-        IsGood (moved (with_stack t (Body frame ∷ Body under ∷ rest)) Ends).memory under.call (word_of held r.0) w.datum
+        Known (scope_of t) w → IsGood m t.memory frame.call (return_word m held is frame.func) w.datum →
+        IsGood m (moved (with_stack t (Body frame ∷ Body under ∷ rest)) Ends).memory under.call (word_of held r.0) w.datum
     back_inner instr r w at has known good =
         let c = comes_back t (Body frame) under rest valid inv h passed typed instr r at has in
         inner_good m held is t.memory (moved (with_stack t (Body frame ∷ Body under ∷ rest)) Ends).memory
@@ -341,7 +332,7 @@ module _ (m : Module) (formed : IsWellFormed m) (held : Fact → Bool) (is : Jus
         IsFair m (event (Outside frame ∷ Body under ∷ rest) (Return (Some w))) →
         acted_on (moved (with_stack t (Outside frame ∷ Body under ∷ rest)) Ends).memory
         (map (λ (attrs : CallAttrs). attrs.ret) (promising m instr.op)) w ≡ Gives z →
-        IsGood (moved (with_stack t (Outside frame ∷ Body under ∷ rest)) Ends).memory under.call (word_of held r.0) z.datum
+        IsGood m (moved (with_stack t (Outside frame ∷ Body under ∷ rest)) Ends).memory under.call (word_of held r.0) z.datum
     back_outer instr r w z at has fair acts =
         let c = comes_back t (Outside frame) under rest valid inv h passed typed instr r at has in
         outer_good m held is t.memory (moved (with_stack t (Outside frame ∷ Body under ∷ rest)) Ends).memory
@@ -395,7 +386,7 @@ module _ (m : Module) (formed : IsWellFormed m) (held : Fact → Bool) (is : Jus
             ((w : Value) → x ≡ Some w → Known (scope_of t) w × IsReturned t top (Body under ∷ rest) w) →
             came_back m (moved (with_stack t (top ∷ Body under ∷ rest)) Ends).memory (active top).body instr.op x ≡ Gives y → (r : ValueId) (z : Value) →
             instr.result ≡ Some r → y ≡ Some z →
-            IsGood (moved (with_stack t (top ∷ Body under ∷ rest)) Ends).memory under.call (word_of held r.0) z.datum
+            IsGood m (moved (with_stack t (top ∷ Body under ∷ rest)) Ends).memory under.call (word_of held r.0) z.datum
         good (Body frame) valid inv h passed typed returned back r z has is_z =
             let from = returned z (came_inner (moved (with_stack t (Body frame ∷ Body under ∷ rest)) Ends).memory frame.func instr.op x y back ∙ is_z) in
             back_inner t frame under rest valid inv h passed typed instr r z at has from.0 from.1

@@ -151,7 +151,7 @@ module _ (m : Module) (formed : IsWellFormed m) (held : Fact → Bool) (opening 
         (each_arg (HoldsOfSubject m steps (OfArg s at)) written (of_operand m held w) (of_handed held (param_for m (inner_callee m instr.op) at))
         (refuses_access (param_for m (inner_callee m instr.op) at))
         (value_says m steps (λ a. a.call.made ≡ At s) (Argument at) (of_operand m held w)
-        (args_are m formed held opening opens choices holds s instr stands call is_call at w is_arg constants) (λ a. HoldsAtCall a s steps) at)
+        (args_are m formed held opening opens choices holds s instr stands call is_call at w is_arg pointer constants) (λ a. HoldsAtCall a s steps) at)
         (handed_uses m formed held opening opens choices holds s instr stands at (λ a. HoldsAtCallValue m a (Argument at) s steps))))
 
     at_arg_holds : (at : ℕ) → AllByRecursion Holds (at_arg m held s call (inner_callee m instr.op) at)

@@ -15,6 +15,7 @@ use Rattle.ir_module.specs.Places.{instr_at}
 use Rattle.ir_module.specs.Calls.{call_of, inner_callee}
 use Rattle.ir_module.specs.WellFormed.{IsWellFormed}
 use Rattle.lattice_words.specs.declared.value.TheConstants.{NONNULL, ALIGN_2, BYTES_1}
+use Rattle.facts.specs.Bodies.{is_pointer}
 use Rattle.facts.specs.Facts.{Fact, of_value}
 use Rattle.facts.specs.Kinds.{value_fact}
 use Rattle.facts.specs.Known.{operand_has}
@@ -159,7 +160,8 @@ module _ (m : Module) (formed : IsWellFormed m) (held : Fact → Bool) (opening 
             let runs = every_at (RunsItsCallee m) is.event.calls 0 a names (stands_first a is.event is.by) in
             runs_there m a s instr runs made stands ∙ inner
 
-    module _ (call : Call) (is_call : call_of instr.op ≡ Some call) (at : ℕ) (w : Written) (is_arg : slice_get call.args at ≡ Some w) where
+    module _ (call : Call) (is_call : call_of instr.op ≡ Some call) (at : ℕ) (w : Written) (is_arg : slice_get call.args at ≡ Some w)
+        (pointer : is_pointer m w.ty ≡ true) where
       -- the frame that makes the call, by its values
       by_frame : (d : Done) (a : Active) (x : Value) (v : ℕ) → w.val ≡ operand.Value (record { 0 = v }) → IsLinked m d.next.stack →
           ArgumentsAreOperands m d.next.memory.home d.next.stack → FramesAreRight held d.next → BeginsIn d a → a.call.made ≡ At s →
@@ -196,7 +198,7 @@ module _ (m : Module) (formed : IsWellFormed m) (held : Fact → Bool) (opening 
 
       by_constant : (d : Done) (a : Active) (x : Value) → is_constant w.val ≡ true → ConstantsAreRight m held d → BeginsIn d a → a.call.made ≡ At s →
           slice_get a.call.passed at ≡ Some x → (c : Begun) × BitsHold d.next.memory c (of_operand m held w) x.datum
-      by_constant d a x is constants begins made passed = (a.call, constants a s instr call at w x begins made stands is_call is_arg is passed)
+      by_constant d a x is constants begins made passed = (a.call, constants a s instr call at w x begins made stands is_call is_arg is pointer passed)
 
       by_operand : (o : Operand) → w.val ≡ o → (d : Done) (a : Active) (x : Value) → IsLinked m d.next.stack →
           ArgumentsAreOperands m d.next.memory.home d.next.stack → FramesAreRight held d.next → ConstantsAreRight m held d → BeginsIn d a → a.call.made ≡ At s →

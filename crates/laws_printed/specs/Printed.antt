@@ -9,6 +9,7 @@ use Rattle.ir_module.specs.declared.module.Spot.{Spot}
 use Rattle.ir_module.specs.declared.module.Module.{Module}
 use Rattle.ir_module.specs.Places.{instr_at}
 use Rattle.ir_module.specs.Calls.{call_of}
+use Rattle.facts.specs.Bodies.{is_pointer}
 use Rattle.facts.specs.Facts.{Fact}
 use Rattle.ir_machine.specs.declared.choice.Choice.{Choice}
 use Rattle.ir_machine.specs.declared.choice.Value.{Value}
@@ -69,8 +70,8 @@ abbrev pub is_constant : Operand → Bool
 is_constant (operand.Value v) = false
 is_constant _ = true
 
--- where a call begins in this step, each argument that is a constant is as is known of it, by the kinds of fact that are built of values
+-- where a call begins in this step, each pointer argument that is a constant is as is known of it, by the kinds of fact that are built of values
 abbrev pub ConstantsAreRight : Module → (Fact → Bool) → Done → Type 0
 ConstantsAreRight m held d = (a : Active) (s : Spot) (instr : Instr) (call : Call) (at : ℕ) (w : Written) (x : Value) → BeginsIn d a → a.call.made ≡ At s →
     instr_at m s ≡ Some instr → call_of instr.op ≡ Some call → slice_get call.args at ≡ Some w → is_constant w.val ≡ true →
-    slice_get a.call.passed at ≡ Some x → BitsHold d.next.memory a.call (of_operand m held w) x.datum
+    is_pointer m w.ty ≡ true → slice_get a.call.passed at ≡ Some x → BitsHold d.next.memory a.call (of_operand m held w) x.datum

@@ -1,5 +1,5 @@
 -- From single steps to whole runs: values have their types, and pointers keep theirs.
-use Rattle.std.proofs.Common.{◌≡◌, ℕ, Bool, true, false, List, [], ◌∷◌, slice_get, All, Some, refl, sym, subst, ◌∙◌}
+use Rattle.std.proofs.Common.{◌≡◌, ℕ, Bool, true, false, List, [], All, refl}
 use Rattle.std.specs.List.{AllByRecursion}
 use Rattle.std.proofs.lemmas.List.Elements.{All-from_recursion}
 use Rattle.shelf.proofs.Every.{every_mapped}
@@ -16,7 +16,7 @@ use Rattle.ir_machine.proofs.Linked.{Linked, RunTheirCallees, all_linked}
 use Rattle.law_premises.specs.Premises.{PassesPointers, ReturnsPointers, KeepsTypes}
 use Rattle.law_premises.specs.Types.{HasTypes, IsOf, FrameIsTyped, FramesAreTyped, HasTypedAddresses, PassesAddresses}
 use Rattle.laws_types.proofs.Passing.{typed_at}
-use Rattle.laws_types.proofs.Stepping.{IsWell, Inv, HasReturnType, all_typed}
+use Rattle.laws_types.proofs.Stepping.{ParamsTyped, IsWell, Inv, HasReturnType, all_typed}
 
 -- a value of another type has no origins
 bare_origins : (kind : Bool) (x : Value) → kind ≡ false → IsOf kind x → x.origins ≡ []
@@ -34,11 +34,11 @@ module _ (m : Module) where
 
   passes_pointers : (frame : Frame) → IsWell m frame → PassesPointers m frame
   passes_pointers frame well s instr call k w x made at is_call at_w at_x none =
-      bare_origins (is_pointer m w.ty) x none (typed_at m call.args _ k w x (well.1 s instr call made at is_call) at_w at_x)
+      bare_origins (is_pointer m w.ty) x none (typed_at m call.args _ k w x (well.1.0 s instr call made at is_call) at_w at_x)
 
   typed_addresses : (frame : Frame) → IsWell m frame → HasTypedAddresses m frame
   typed_addresses frame well s instr call k w x b o made at is_call at_w at_x is =
-      address_kind (is_pointer m w.ty) x b o is (typed_at m call.args _ k w x (well.1 s instr call made at is_call) at_w at_x)
+      address_kind (is_pointer m w.ty) x b o is (typed_at m call.args _ k w x (well.1.0 s instr call made at is_call) at_w at_x)
 
   returns_pointers : (e : Event) → HasReturnType m e → ReturnsPointers m e
   returns_pointers e has a s instr x by what made at none = bare_origins (is_pointer m instr.ty) x none (has a s instr x by what made at)
@@ -61,6 +61,13 @@ module _ (m : Module) where
         All-from_recursion (λ (d : Done). FramesAreTyped m d.next) (run m opening choices)
         (every_mapped (Shown (Inv m) (HasReturnType m)) (λ (d : Done). FramesAreTyped m d.next) (run m opening choices)
         (λ d s. frames_typed d.next s.next) shown)
+
+    -- the parameters of each call of a body have their types
+    pub params_next : All (λ (d : Done). AllByRecursion (ParamsTyped m) d.next.stack) (run m opening choices)
+    params_next =
+        All-from_recursion (λ (d : Done). AllByRecursion (ParamsTyped m) d.next.stack) (run m opening choices)
+        (every_mapped (Shown (Inv m) (HasReturnType m)) (λ (d : Done). AllByRecursion (ParamsTyped m) d.next.stack) (run m opening choices)
+        (λ d s. every_mapped (IsWell m) (ParamsTyped m) d.next.stack (λ frame well. well.1.1) s.next.frames) shown)
 
     pub keeps_types : All (KeepsTypes m) (run m opening choices)
     keeps_types =

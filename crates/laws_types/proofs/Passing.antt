@@ -1,6 +1,5 @@
 -- What is passed to a call and returned from it, by its types.
-use Rattle.std.proofs.Common.{◌≡◌, ℕ, zero, suc, ◌+◌, ◌==◌, ◌&&◌, ◌||◌, Bool, true, false, if◌then◌else◌, List, [], ◌∷◌, slice_get, map, Option, None, Some}
-use Rattle.std.proofs.Common.{is_some}
+use Rattle.std.proofs.Common.{◌≡◌, ℕ, zero, suc, ◌+◌, ◌==◌, ◌&&◌, Bool, true, false, if◌then◌else◌, List, [], ◌∷◌, slice_get, map, Option, None, Some}
 use Rattle.std.proofs.Common.{refl, sym, ap, subst, ◌∙◌, inl, inr, arith}
 use Rattle.std.specs.List.{AllByRecursion}
 use Rattle.std.specs.Option.{option_and_then}
@@ -12,7 +11,6 @@ use Rattle.attr_ids.specs.declared.ids.ValueId.{ValueId}
 use Rattle.ir_types.specs.declared.ir_type.IrType.{IrType}
 use Rattle.ir_types.specs.declared.ir_type.IrType.TheVariants as type
 use Rattle.ir_module.specs.declared.op.Call.{Call}
-use Rattle.ir_module.specs.declared.op.FuncType.{FuncType}
 use Rattle.ir_module.specs.declared.op.Op.{Op}
 use Rattle.ir_module.specs.declared.op.Operand.{Operand}
 use Rattle.ir_module.specs.declared.op.Operand.TheVariants as operand
@@ -28,19 +26,19 @@ use Rattle.ir_module.specs.Operands.{operands}
 use Rattle.ir_module.specs.Calls.{call_of, are_alike, is_same_type, fit_params, is_same_truth, is_type_of, named, direct_callee, is_exact_in, callee_of}
 use Rattle.ir_module.specs.Calls.{callee_in}
 use Rattle.ir_module.specs.Calls.{inner_callee}
-use Rattle.ir_module.specs.WellFormed.{Each, IsParamFormed, IsWellFormed}
-use Rattle.ir_module.proofs.Spots.{IsFormedAt, formed_at}
+use Rattle.ir_module.specs.WellFormed.{IsParamFormed, IsWellFormed}
+use Rattle.ir_module.proofs.Spots.{formed_at}
 use Rattle.facts.specs.Bodies.{is_pointer, is_ptr}
 use Rattle.ir_machine.specs.declared.choice.Value.{Value}
-use Rattle.ir_machine.specs.Memory.{Memory, put}
+use Rattle.ir_machine.specs.Memory.{Memory}
 use Rattle.ir_machine.specs.Frames.{OutsideFrame, State}
 use Rattle.ir_machine.specs.Moves.{Gives}
-use Rattle.ir_machine.specs.Reading.{Values, Here}
+use Rattle.ir_machine.specs.Reading.{Here}
 use Rattle.ir_machine.specs.Calls.{acted_on, entered, bound, params_of, params_in, marked_args}
 use Rattle.ir_machine.specs.Outside.{can_use, can_pass, is_value_of, types_of}
 use Rattle.ir_machine.proofs.Basics.{OnOutcome, on_with, given, put_has}
 use Rattle.ir_machine.proofs.Instructions.{AreRead}
-use Rattle.law_premises.specs.Types.{AreAlike, IsWrittenAs, IsTyped, HasTypes, PassesTypes, typed, typed_in, IsOf, HasType}
+use Rattle.law_premises.specs.Types.{AreAlike, IsWrittenAs, IsTyped, typed, typed_in, IsOf, HasType}
 use Rattle.laws_types.proofs.Typing.{AreTyped, operand_typed, acted_kind, marked_kind, value_typed}
 
 -- ---- lists of values and their types

@@ -3,9 +3,9 @@ use Rattle.std.proofs.Common.{◌≡◌, ℕ, zero, suc, ◌+◌, ◌-◌, ◌==
 use Rattle.std.proofs.Common.{Option, None, Some, is_some, refl, sym, ap, subst, ◌∙◌, inl, inr}
 use Rattle.std.specs.List.{AllByRecursion, list_all, find}
 use Rattle.std.specs.Option.{option_map, option_and_then, unwrap_or}
-use Rattle.std.proofs.lemmas.Bool.{and_parts, eqb-true}
+use Rattle.std.proofs.lemmas.Bool.{and_parts}
 use Rattle.std.proofs.lemmas.Option.{same_Some}
-use Rattle.shelf.proofs.Every.{every_at, every_always}
+use Rattle.shelf.proofs.Every.{every_at}
 use Rattle.attr_ids.specs.declared.ids.TypeId.{TypeId}
 use Rattle.attr_ids.specs.declared.ids.ValueId.{ValueId}
 use Rattle.ir_module.specs.declared.op.Arm.{Arm}
@@ -14,13 +14,12 @@ use Rattle.ir_module.specs.declared.op.Op.{Op}
 use Rattle.ir_module.specs.declared.op.Op.TheVariants as op
 use Rattle.ir_module.specs.declared.op.Written.{Written}
 use Rattle.ir_module.specs.declared.op.Instr.{Instr}
-use Rattle.ir_module.specs.declared.module.Func.{Func}
 use Rattle.ir_module.specs.declared.module.Seg.{Seg}
 use Rattle.ir_module.specs.declared.module.Spot.{Spot}
 use Rattle.ir_module.specs.declared.module.ValueInfo.{ValueInfo}
 use Rattle.ir_module.specs.declared.module.Module.{Module}
 use Rattle.ir_module.specs.Places.{spot, instr_at, in_seg, first_seg_of, IsIn}
-use Rattle.ir_module.specs.Calls.{call_of, inner_callee, promising}
+use Rattle.ir_module.specs.Calls.{call_of, promising}
 use Rattle.ir_module.specs.WellFormed.{IsWellFormed}
 use Rattle.facts.specs.Bodies.{is_pointer}
 use Rattle.ir_machine.specs.declared.choice.Datum.{Datum}
@@ -30,13 +29,13 @@ use Rattle.ir_machine.specs.declared.choice.Byte.{Byte}
 use Rattle.ir_machine.specs.declared.choice.Byte.TheVariants as byte
 use Rattle.ir_machine.specs.declared.choice.Choice.{Choice}
 use Rattle.ir_machine.specs.Values.{plain, bytes_from, overlaid, stored_byte, stored}
-use Rattle.ir_machine.specs.Memory.{Memory, Life, Live, Closed, is_dead, put, without_allocas}
-use Rattle.ir_machine.specs.Frames.{Made, Lowest, Entered, At, Begun, BodyFrame, OutsideFrame, Frame, Body, Outside, Active, active, call_of as call_in, State}
+use Rattle.ir_machine.specs.Memory.{Memory, Live, Closed, is_dead, put, without_allocas}
+use Rattle.ir_machine.specs.Frames.{Lowest, Entered, At, Begun, BodyFrame, OutsideFrame, Frame, Body, Outside, Active, active, call_of as call_in, State}
 use Rattle.ir_machine.specs.Frames.{What, Enter, Read, Write, HiddenRead, HiddenWrite, Free, Capture, Return, Unwind, Event, event}
 use Rattle.ir_machine.specs.Moves.{Move, Says, Grows, Turns, Fills, Keeps, Sets, Goes, Takes, Begins, Ends, moved, set_on_top, gone_on_top, taken_on_top}
 use Rattle.ir_machine.specs.Moves.{under_top, says, Gives, Undefined, Over, Plan}
-use Rattle.ir_machine.specs.Reading.{Values, read, Here, behind}
-use Rattle.ir_machine.specs.Access.{Place, alloca_shape, hidden, bytes_at, bytes_with}
+use Rattle.ir_machine.specs.Reading.{Values, read, behind}
+use Rattle.ir_machine.specs.Access.{alloca_shape, hidden, bytes_at, bytes_with}
 use Rattle.ir_machine.specs.Edges.{Crossing, crossing, arm_from, instrs_in, first_instrs}
 use Rattle.ir_machine.specs.Calls.{passed_to, params_of, entered, body_frame, acted_on, came_back, takes, with_result, is_end_name, marks_last, turns}
 use Rattle.ir_machine.specs.Calls.{is_alloca_result}
@@ -44,17 +43,16 @@ use Rattle.ir_machine.specs.Outside.{is_ptr, can_use, can_touch, can_write, capt
 use Rattle.ir_machine.specs.Outside.{can_return}
 use Rattle.ir_machine.specs.Outside.{pointers_in, reads_at, taking}
 use Rattle.ir_machine.specs.Steps.{plan}
-use Rattle.ir_machine.specs.Runs.{Done, done, IsOpening, IsOpenByte, IsOpenDatum, run}
+use Rattle.ir_machine.specs.Runs.{Done, IsOpening, IsOpenByte, IsOpenDatum, run}
 use Rattle.ir_machine.specs.Links.{BeginsAs, CallsBodyIn, CallsBody, IsLinked, AreLinked}
 use Rattle.ir_machine.specs.Meanings.{IsBy}
-use Rattle.ir_machine.specs.Valid.{IsByteOf}
-use Rattle.ir_machine.proofs.Basics.{OnOutcome, on_with, given, outcome_mapped, put_has, Along, Law, Shown, run_law}
+use Rattle.ir_machine.proofs.Basics.{OnOutcome, on_with, given, put_has, Along, Law, Shown, run_law}
 use Rattle.ir_machine.proofs.Instructions.{IsReadOr, EachKind, EachAct, by_step, here_in, passing_at, passing_in}
 use Rattle.ir_machine.proofs.Moving.{IsPhiSet, IsCrossing, crossed, IsOnward, SetsFirst, IsGoingOn, went_on, IsComing, came, IsThrough, went_through, along_all}
 use Rattle.law_premises.specs.Types.{AreAlike, IsWrittenAs, typed, GivesType, HasTypes, ReturnsType, IsPointerDatum, IsOf, HasType, FrameIsTyped}
 use Rattle.laws_types.proofs.Typing.{AreTyped, number_of, pointer_of, read_typed, operand_typed, computed_typed, IsFragment, loaded_typed, acted_kind}
 use Rattle.laws_types.proofs.Typing.{value_typed}
-use Rattle.laws_types.proofs.Passing.{AllTyped, types_in, marked_typed, entered_typed, are_params, bound_typed, IsCallOf, is_call_of, args_typed, args_fit}
+use Rattle.laws_types.proofs.Passing.{AllTyped, types_in, marked_typed, entered_typed, are_params, bound_typed, is_call_of, args_typed, args_fit}
 use Rattle.laws_types.proofs.Passing.{EachAlike, each_refl, passes_typed, result_type}
 
 -- ---- phis
@@ -92,8 +90,13 @@ module _ (m : Module) where
   PassesTyped frame = (s : Spot) (instr : Instr) (call : Call) → (call_in frame).made ≡ At s → instr_at m s ≡ Some instr → call_of instr.op ≡ Some call →
       AllTyped m (types_in call.args) (call_in frame).passed
 
+  -- the parameters of a body have the types that are written for them
+  abbrev pub ParamsTyped : Frame → Type 0
+  ParamsTyped (Body frame) = AllTyped m (types_of (params_of m frame.func)) frame.call.args
+  ParamsTyped (Outside frame) = Unit {0}
+
   abbrev pub IsWell : Frame → Type 0
-  IsWell frame = FrameIsTyped m frame × PassesTyped frame
+  IsWell frame = FrameIsTyped m frame × (PassesTyped frame × ParamsTyped frame)
 
   pub record Inv (t : State) : Type 0 where
     pub frames : AllByRecursion IsWell t.stack
@@ -587,9 +590,12 @@ module _ (m : Module) where
               (
                 (
                   tt,
-                  (λ s other written made there is_written. made_at frame instr call
-                      (passed_to m t (passing_at here call xs)) s other written at is_call made there
-                      is_written (marked_typed m t.next_call 0 (types_in call.args) xs (args_typed m here values call xs is is_call reads))),
+                  (
+                    (λ s other written made there is_written. made_at frame instr call
+                        (passed_to m t (passing_at here call xs)) s other written at is_call made there
+                        is_written (marked_typed m t.next_call 0 (types_in call.args) xs (args_typed m here values call xs is is_call reads))),
+                    tt,
+                  ),
                 ),
                 tt,
               ),
@@ -634,13 +640,16 @@ module _ (m : Module) where
               entered t.memory (params_of m f) (passed_to m t (passing_at (here_in t frame below instr) call xs)) ≡ Gives args →
               IsWell (Body (body_frame m t (passing_at (here_in t frame below instr) call xs) f args))
           body_begins call xs args f is_call all each enters =
-              let passed = marked_typed m t.next_call 0 (types_in call.args) xs all in (
-                bound_typed m (params_of m f) args (are_params m formed f)
-                    (entered_typed m t.memory (params_of m f) (types_in call.args)
-                    (passed_to m t (passing_at (here_in t frame below instr) call xs)) args each passed enters),
-                (λ s other written made there is_written. made_at frame instr call
-                    (passed_to m t (passing_at (here_in t frame below instr) call xs)) s other written at is_call made
-                    there is_written passed),
+              let passed = marked_typed m t.next_call 0 (types_in call.args) xs all in
+              let params = entered_typed m t.memory (params_of m f) (types_in call.args)
+              (passed_to m t (passing_at (here_in t frame below instr) call xs)) args each passed enters in (
+                bound_typed m (params_of m f) args (are_params m formed f) params,
+                (
+                  (λ s other written made there is_written. made_at frame instr call
+                      (passed_to m t (passing_at (here_in t frame below instr) call xs)) s other written at is_call made
+                      there is_written passed),
+                  params,
+                ),
               )
 
       outside_step : (frame : OutsideFrame) (below : List Frame) → t.stack ≡ Outside frame ∷ below → EachAct m t frame below (Along C t)
@@ -665,12 +674,12 @@ module _ (m : Module) where
             freeing = λ block can. (tt, (tt, tt));
             keeping = λ x can. (tt, (tt, tt));
             entering = λ f xs args open' passes enters.
-                let passed = marked_typed m t.next_call 0 (types_of (params_of m f)) xs (passes_typed m t frame (params_of m f) xs passes) in (
+                let passed = marked_typed m t.next_call 0 (types_of (params_of m f)) xs (passes_typed m t frame (params_of m f) xs passes) in
+                let params = entered_typed m t.memory (params_of m f) (types_of (params_of m f)) (passed_to m t (passing_in m f xs)) args
+                (each_refl m (types_of (params_of m f))) passed enters in (
                   (
-                    bound_typed m (params_of m f) args (are_params m formed f)
-                        (entered_typed m t.memory (params_of m f) (types_of (params_of m f)) (passed_to m t (passing_in m f xs)) args
-                        (each_refl m (types_of (params_of m f))) passed enters),
-                    (λ s other written made there is_written. absurd (entered_at s made)),
+                    bound_typed m (params_of m f) args (are_params m formed f) params,
+                    ((λ s other written made there is_written. absurd (entered_at s made)), params),
                   ),
                   (tt, tt),
                 );
@@ -717,7 +726,7 @@ module _ (m : Module) where
 
     opening_typed : (t : State) → IsOpening m t → Inv t
     opening_typed t is = record {
-      frames = subst (AllByRecursion IsWell) (sym is.stack) ((tt, (λ s instr call made at is_call. absurd (lowest_at s made))), tt);
+      frames = subst (AllByRecursion IsWell) (sym is.stack) ((tt, ((λ s instr call made at is_call. absurd (lowest_at s made)), tt)), tt);
       bytes = λ b at. open_fragment t.memory.count (t.memory.bytes b at) (is.memory.bytes b at);
     }
       where

@@ -1,6 +1,6 @@
 -- Values by their types: what operands, operations and memory give.
 use Rattle.std.proofs.Common.{◌≡◌, ℕ, ◌+◌, ◌-◌, ◌%◌, ◌^◌, ◌==◌, ◌&&◌, ◌||◌, not, drop, nat_le, nat_lt, Bool, true, false, if◌then◌else◌, List, [], ◌∷◌}
-use Rattle.std.proofs.Common.{slice_get, map, Option, None, Some, refl, sym, ap, subst, ◌∙◌}
+use Rattle.std.proofs.Common.{slice_get, Option, None, Some, refl, sym, subst, ◌∙◌}
 use Rattle.std.specs.List.{AllByRecursion, list_any, list_all}
 use Rattle.std.proofs.lemmas.Bool.{and_parts}
 use Rattle.attr_ids.specs.declared.ids.TypeId.{TypeId}
@@ -18,7 +18,6 @@ use Rattle.ir_module.specs.declared.op.Op.{Op}
 use Rattle.ir_module.specs.declared.op.Op.TheVariants as op
 use Rattle.ir_module.specs.declared.op.Operand.{Operand}
 use Rattle.ir_module.specs.declared.op.Operand.TheVariants as operand
-use Rattle.ir_module.specs.declared.op.Symbol.{Symbol}
 use Rattle.ir_module.specs.declared.op.Symbol.TheVariants as symbol
 use Rattle.ir_module.specs.declared.op.Written.{Written}
 use Rattle.ir_module.specs.declared.module.ValueInfo.{ValueInfo}

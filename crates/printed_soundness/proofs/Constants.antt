@@ -35,4 +35,4 @@ unknown m held w bit is on = true≢false (sym (subst (λ b. (b && written_has m
 pub constants_right : (m : Module) (held : Fact → Bool) (steps : List Done) → All (ConstantsAreRight m held) steps
 constants_right m held steps =
     All-from_recursion (ConstantsAreRight m held) steps (every_always (ConstantsAreRight m held) steps
-    (λ d a s instr call at w x begins made stands is_call is_arg is passed bit on. absurd (unknown m held w bit is on)))
+    (λ d a s instr call at w x begins made stands is_call is_arg is pointer passed bit on. absurd (unknown m held w bit is on)))

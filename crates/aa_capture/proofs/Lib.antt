@@ -1,0 +1,9 @@
+pub mod Marked
+pub mod Words
+pub mod Rows
+pub mod Used
+pub mod Found
+pub mod Phis
+pub mod Ends
+pub mod Whole
+pub mod Together
