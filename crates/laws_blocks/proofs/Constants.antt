@@ -322,7 +322,7 @@ module _ (m : Module) where
       ]
 
       aligned_there : (n : ℕ) → n ∣ 2 ^ 64 → (d.fixed % n == 0) ≡ true → (o : Option ℕ) → mem.home base ≡ o → IsAligned mem n (at_home o) → IsAligned
-              mem n y.datum
+          mem n y.datum
       aligned_there n whole fixed None home is = elim (from_null None home refl) [
         | inl e ↦ subst (IsAligned mem n) (sym e) tt
         | inr e ↦ subst (IsAligned mem n) (sym e) tt
@@ -413,8 +413,11 @@ module _ (m : Module) where
         is_pointer m ty ≡ true → read_operand m mem values (slice_get m.types ty.0) o picks ≡ Gives (record { value = y; picks = rest }) → (bit : ℕ) →
         operand_has m held ty o bit ≡ true → SaysOfValue mem call (value_fact bit) y.datum
     constant_says held ty o values picks rest y constant pointer is bit has =
-        by o constant (subst (λ t. read_operand m mem values t o picks ≡ Gives (record { value =
-            y; picks = rest })) (is_ptr_type (slice_get m.types ty.0) pointer) is)
+        by o constant (subst (λ t. read_operand m mem values t o picks ≡ Gives (record {
+          value =
+              y;
+          picks = rest;
+        })) (is_ptr_type (slice_get m.types ty.0) pointer) is)
         has
       where
         plain_is : (d' : Datum) → picked (plain d') picks ≡ Gives (record { value = y; picks = rest }) → SaysOfValue mem call (value_fact bit) d' →

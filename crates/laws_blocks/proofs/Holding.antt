@@ -54,13 +54,13 @@ module _ (m : Module) (formed : IsWellFormed m) (types : HasTypes m) (opening : 
   live_in_before =
       All-from_recursion (λ (d : Done). AreLive d.before.memory) steps
       (every_mapped (Shown (λ t. IsValid t × Inv m formed t) (λ e. Unit {0})) (λ (d : Done). AreLive d.before.memory) steps (λ d shown.
-              shown.before.1.1) shown_live)
+      shown.before.1.1) shown_live)
 
   pub live_in_next : All (λ (d : Done). AreLive d.next.memory) steps
   live_in_next =
       All-from_recursion (λ (d : Done). AreLive d.next.memory) steps
       (every_mapped (Shown (λ t. IsValid t × Inv m formed t) (λ e. Unit {0})) (λ (d : Done). AreLive d.next.memory) steps (λ d shown. shown.next.1.1)
-              shown_live)
+      shown_live)
 
   all_have : AllByRecursion (λ (d : Done). HaveBlocks m d.next.memory) steps
   all_have =

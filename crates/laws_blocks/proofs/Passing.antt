@@ -168,7 +168,7 @@ module _ (m : Module) where
       quiet : (moves : List Move) → AllByRecursion IsNoCall moves → Q t moves
       quiet moves none valid a s instr call at w x begins made at_s is_call written passed =
           let low = moves_below t.next_call t moves none (ordered_below t.born t.next_call t.memory.count t.next_call t.stack (omega arith)
-                  valid.before.order) in
+          valid.before.order) in
           let top = (subst (AreBelow t.next_call) begins.stack low).0 in
           let number : (call_in begins.frame).number ≡ t.next_call = ap (λ (b : Active). b.call.number) begins.is ∙ begins.new in
           absurd (omega (arith, top, number))
