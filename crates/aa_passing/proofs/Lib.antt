@@ -1,0 +1,5 @@
+pub mod Back
+pub mod Stands
+pub mod Passed
+pub mod Called
+pub mod Whole
